@@ -1,0 +1,5 @@
+pub mod Rules
+pub mod Opening
+pub mod History
+pub mod Demands
+pub mod Reached

@@ -1,0 +1,237 @@
+-- The outline's rules: what is answered to a request, and the board after it. The answer comes first, and changes nothing;
+-- the board follows the answer, and decides nothing.
+use Prim.Native.Nat.{ℕ, zero, suc, _+_, _-_, _%_}
+use mathlib.Core.Bool.{Bool, true, false, cond, not, _&&_, _||_}
+use mathlib.Core.List.{List, [], _∷_}
+use lib.ListN.{getD, set, replicate}
+use lib.Dec.{eqb, ltb, leb}
+use Rattle.items.specs.First.{first}
+use Rattle.items.specs.Items.{none, has, with, without, common, empty, lowest}
+use Rattle.items.specs.declared.Items.{Items}
+use Rattle.counters.specs.Counters.{noAge, noNumber, nextAge, nextNumber}
+use Rattle.counters.specs.declared.Age.{Age}
+use Rattle.counters.specs.declared.Number.{Number}
+use Rattle.wire.specs.Checks.{Check, _fails_, firstFailing}
+use Rattle.wire.specs.Requests.{decode, deskOf, valueOf}
+use Rattle.wire.specs.declared.Request.{Request}
+use Rattle.wire.specs.declared.Request.the-variants.{Begin, Read, Write, End, Abandon}
+use Rattle.wire.specs.declared.Decoded.{Decoded}
+use Rattle.wire.specs.declared.Decoded.the-variants.{Asked, Malformed}
+use Rattle.wire.specs.declared.Reason.the-variants.{Overwritten, TooOld, Yield}
+use Rattle.wire.specs.declared.Answer.{Answer}
+use Rattle.wire.specs.declared.Answer.the-variants.{Refused, Opened, Value, Stored, Wait, Committed, Abandoned, Aborted}
+use Rattle.board.specs.declared.Desk.{Desk}
+use Rattle.board.specs.declared.Board.{Board}
+use Rattle.board.specs.declared.Stepped.{Stepped}
+
+-- ---- records of a desk
+
+-- a desk with nothing open: all of it at zero or empty
+abbrev pub idle : Desk
+idle = record { age = noAge; start = noNumber; read = none; shared = none; written = none; copies = replicate 64 0 }
+
+-- a transaction just begun
+abbrev pub opened : Age → Number → Desk
+opened a s = record { age = a; start = s; read = none; shared = none; written = none; copies = replicate 64 0 }
+
+-- a desk's record; past the sixteenth there is none, not even room for copies
+abbrev pub beyond : Desk
+beyond = record { age = noAge; start = noNumber; read = none; shared = none; written = none; copies = [] }
+
+abbrev pub deskIn : List Desk → ℕ → Desk
+deskIn desks d = getD desks d beyond
+
+abbrev pub deskAt : Board → ℕ → Desk
+deskAt b d = deskIn (b .desks) d
+
+-- a transaction is open: ages begin at 1
+abbrev pub isOpen : Desk → Bool
+isOpen k = not (eqb (k .age .0) 0)
+
+abbrev pub isGuarded : Board → ℕ → Bool
+isGuarded b i = has (b .guarded) i
+
+-- the desk's private copy of item i
+abbrev pub copyOf : Desk → ℕ → ℕ
+copyOf k i = getD (k .copies) i 0
+
+-- ---- refusals 4 to 9, in their order
+
+abbrev pub checks : Board → ℕ → Request → List Check
+checks b d Begin = isOpen (deskAt b d) fails 4 ∷ leb 2000 (b .age .0) fails 9 ∷ []
+checks b d (Read i) = not (isOpen (deskAt b d)) fails 5 ∷ ltb 63 i fails 6 ∷ []
+checks b d (Write i v) =
+    not (isOpen (deskAt b d)) fails 5
+    ∷ ltb 63 i fails 6
+    ∷ ltb v (getD (b .floors) i 0) fails 7
+    ∷ ltb (getD (b .ceilings) i 0) v fails 8
+    ∷ []
+checks b d End = not (isOpen (deskAt b d)) fails 5 ∷ []
+checks b d Abandon = not (isOpen (deskAt b d)) fails 5 ∷ []
+
+abbrev pub refusal : Board → ℕ → Request → ℕ
+refusal b d r = firstFailing (checks b d r)
+
+-- ---- locks
+
+-- for a read, a desk that has written the item conflicts; for a write, which w tells, also one that holds it shared
+abbrev pub conflicts : Desk → ℕ → Bool → Bool
+conflicts k i w = has (k .written) i || (w && has (k .shared) i)
+
+-- another desk e is a conflicting holder of item i, for a request of desk d
+abbrev pub inTheWay : List Desk → Items → ℕ → ℕ → Bool → ℕ → Bool
+inTheWay desks guarded d i w e = has guarded i && not (eqb e d) && conflicts (deskIn desks e) i w
+
+-- of the desks below n that p holds of, the one of lowest age; 16 where there is none
+unfoldable pub eldest : (ℕ → Bool) → (ℕ → ℕ) → ℕ → ℕ
+eldest p age zero = 16
+eldest p age (suc n) =
+    let e = eldest p age n in
+    cond (p n && (eqb e 16 || ltb (age n) (age e))) n e
+
+-- of the conflicting holders, the one of lowest age; 16 where there is none
+abbrev pub holder : List Desk → Items → ℕ → ℕ → Bool → ℕ
+holder desks guarded d i w = eldest (inTheWay desks guarded d i w) (λ e. deskIn desks e .age .0) 16
+
+-- with desk e the oldest holder: granted where there is none; wait if this transaction is older than e, and so than each; else yield
+abbrev pub lockedBy : List Desk → ℕ → ℕ → Answer → ℕ → Answer
+lockedBy desks d i granted e =
+    cond (eqb e 16) granted
+    (cond (ltb (deskIn desks d .age .0) (deskIn desks e .age .0)) (Wait i) (Aborted (Yield i)))
+
+abbrev pub locked : List Desk → Items → ℕ → ℕ → Bool → Answer → Answer
+locked desks guarded d i w granted = lockedBy desks d i granted (holder desks guarded d i w)
+
+-- ---- the end
+
+-- the write set of number n, while it is one of the last 16
+abbrev pub writeSet : List Items → ℕ → Items
+writeSet sets n = getD sets (n % 16) none
+
+-- it shares an item with the open-read set
+abbrev pub shares : List Items → Items → ℕ → Bool
+shares sets read n = not (empty (common (writeSet sets n) read))
+
+-- of the numbers above the start up to the last, the lowest whose write set shares an item with the open-read set;
+-- the number after the last where there is none
+unfoldable pub firstStale : List Items → Items → ℕ → ℕ → ℕ
+firstStale sets read start last = start + 1 + first (last - start) (λ k. shares sets read (start + 1 + k))
+
+-- validation of a desk's record k, at last number n
+abbrev pub ended : List Items → Number → Desk → Answer
+ended sets n k =
+    let stale = firstStale sets (k .read) (k .start .0) (n .0) in
+    let commit : Answer = Committed (nextNumber n) in
+    cond (empty (k .read)) commit
+    (cond (ltb 16 (n .0 - k .start .0)) (Aborted (TooOld (k .start)))
+    (cond (ltb (n .0) stale) commit
+    (Aborted (Overwritten (lowest (common (writeSet sets stale) (k .read))) (record { 0 = stale })))))
+
+-- ---- the answer
+
+-- the desk's own copy if it has written the item, else the board's value
+abbrev pub seen : List ℕ → Desk → ℕ → ℕ
+seen values k i = cond (has (k .written) i) (copyOf k i) (getD values i 0)
+
+abbrev pub granted : Board → ℕ → Request → Answer
+granted b d Begin = Opened (nextAge (b .age)) (b .number)
+granted b d (Read i) = locked (b .desks) (b .guarded) d i false (Value i (seen (b .values) (deskAt b d) i))
+granted b d (Write i v) = locked (b .desks) (b .guarded) d i true (Stored i)
+granted b d End = ended (b .sets) (b .number) (deskAt b d)
+granted b d Abandon = Abandoned
+
+-- to request r of desk d
+abbrev pub answered : Board → ℕ → Request → Answer
+answered b d r =
+    let n = refusal b d r in
+    cond (eqb n 0) (granted b d r) (Refused n)
+
+unfoldable pub answer : Board → Decoded → Answer
+answer b (Malformed n) = Refused n
+answer b (Asked d r) = answered b d r
+
+-- ---- the board after it
+
+abbrev pub put : Board → ℕ → Desk → Board
+put b d k =
+    record
+    { values = b .values; floors = b .floors; ceilings = b .ceilings; guarded = b .guarded; age = b .age; number = b .number; sets = b .sets; desks = set (b .desks) d k }
+
+abbrev pub begun : Board → ℕ → Age → Number → Board
+begun b d a s =
+    record
+    { values = b .values; floors = b .floors; ceilings = b .ceilings; guarded = b .guarded; age = a; number = b .number; sets = b .sets; desks = set (b .desks) d (opened a s) }
+
+-- an open item joins the open-read set; a guarded one, which g tells, joins the shared set if the desk has not written it
+abbrev pub reading : Desk → ℕ → Bool → Desk
+reading k i g =
+    record {
+      age = k .age;
+      start = k .start;
+      read = cond g (k .read) (with (k .read) i);
+      shared = cond (g && not (has (k .written) i)) (with (k .shared) i) (k .shared);
+      written = k .written;
+      copies = k .copies;
+    }
+
+-- the copy is stored, the item joins the written set and leaves the shared set
+abbrev pub writing : Desk → ℕ → ℕ → Desk
+writing k i v =
+    record {
+      age = k .age;
+      start = k .start;
+      read = k .read;
+      shared = without (k .shared) i;
+      written = with (k .written) i;
+      copies = set (k .copies) i v;
+    }
+
+-- f in place of vs at each of the first n places that passes the test
+unfoldable pub filled : (ℕ → Bool) → (ℕ → ℕ) → ℕ → List ℕ → List ℕ
+filled p f zero vs = vs
+filled p f (suc n) vs =
+    let before = filled p f n vs in
+    cond (p n) (set before n (f n)) before
+
+-- f in place of the values of the items in w
+abbrev pub installed : Items → (ℕ → ℕ) → List ℕ → List ℕ
+installed w f vs = filled (has w) f 64 vs
+
+-- the next number is taken, the copies are installed and the desk is freed; the write set is kept in place of the one of 16 numbers ago
+abbrev pub committed : Board → ℕ → Number → Board
+committed b d n =
+    let k = deskAt b d in
+    record {
+      values = installed (k .written) (copyOf k) (b .values);
+      floors = b .floors;
+      ceilings = b .ceilings;
+      guarded = b .guarded;
+      age = b .age;
+      number = n;
+      sets = set (b .sets) (n .0 % 16) (k .written);
+      desks = set (b .desks) d idle;
+    }
+
+unfoldable pub follow : Board → Decoded → Answer → Board
+follow b q (Refused n) = b
+follow b q (Opened a s) = begun b (deskOf q) a s
+follow b q (Value i v) = put b (deskOf q) (reading (deskAt b (deskOf q)) i (isGuarded b i))
+follow b q (Stored i) = put b (deskOf q) (writing (deskAt b (deskOf q)) i (valueOf q))
+follow b q (Wait i) = b
+follow b q (Committed n) = committed b (deskOf q) n
+follow b q Abandoned = put b (deskOf q) idle
+follow b q (Aborted w) = put b (deskOf q) idle
+
+-- ---- one request
+
+abbrev pub stepped : Board → Decoded → Stepped
+stepped b q = let a = answer b q in record { board = follow b q a; answer = a }
+
+-- of 8 bytes
+unfoldable pub step : Board → List ℕ → Stepped
+step b bytes = stepped b (decode bytes)
+
+-- opens all of them, for what is to be computed
+unfoldable pub rules : Unit {0}
+unfolding eldest firstStale answer filled follow step
+rules = tt

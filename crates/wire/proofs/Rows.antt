@@ -1,0 +1,64 @@
+-- A row of the opening table, test by test: the first that fails decides, and where all pass the row is right.
+use mathlib.Core.Path.{_≡_, sym, _∙_}
+use mathlib.Core.Bool.{true, false, _&&_}
+use mathlib.Core.List.{List}
+use Prim.Native.Nat.{ℕ, _+_, _*_, _≤_, _<_}
+use borrow.Author.Tests.{le-leb, lt-leb, eq-eqb, ne-eqb}
+use lib.Dec.{eqb, leb}
+use lib.ListN.{length}
+use Rattle.items.proofs.Tests.{by-equal, clash}
+use Rattle.items.proofs.First.{every-is, every-not}
+use Rattle.wire.specs.Bytes.{byte}
+use Rattle.wire.specs.Table.{floorAt, ceilingAt, valueAt, kindAt, rowRight, wrong}
+
+module _ (t : List ℕ) (i : ℕ) where
+  pub below-floor : valueAt t i < floorAt t i → false ≡ rowRight t i
+  unfolding rowRight
+  below-floor h = rw (lt-leb (floorAt t i) (valueAt t i) h)
+
+  module _ (floor : floorAt t i ≤ valueAt t i) where
+    pub above-ceiling : ceilingAt t i < valueAt t i → false ≡ rowRight t i
+    unfolding rowRight
+    above-ceiling h = rw (le-leb (floorAt t i) (valueAt t i) floor, lt-leb (valueAt t i) (ceilingAt t i) h)
+
+    module _ (ceiling : valueAt t i ≤ ceilingAt t i) where
+      pub no-kind : 1 < kindAt t i → false ≡ rowRight t i
+      unfolding rowRight
+      no-kind h =
+          rw (le-leb (floorAt t i) (valueAt t i) floor, le-leb (valueAt t i) (ceilingAt t i) ceiling, lt-leb (kindAt t i) 1 h)
+
+      module _ (kind : kindAt t i ≤ 1) where
+        -- the last three bytes are left
+        spare : rowRight t i ≡ (eqb (byte t (16 * i + 13)) 0 && eqb (byte t (16 * i + 14)) 0 && eqb (byte t (16 * i + 15)) 0)
+        unfolding rowRight
+        spare =
+            rw (le-leb (floorAt t i) (valueAt t i) floor, le-leb (valueAt t i) (ceilingAt t i) ceiling, le-leb (kindAt t i) 1 kind)
+
+        pub spare-13 : (byte t (16 * i + 13) ≡ 0 → ⊥) → false ≡ rowRight t i
+        spare-13 h = sym (spare ∙ rw (ne-eqb (byte t (16 * i + 13)) 0 h))
+
+        pub spare-14 : byte t (16 * i + 13) ≡ 0 → (byte t (16 * i + 14) ≡ 0 → ⊥) → false ≡ rowRight t i
+        spare-14 e h = sym (spare ∙ rw (e, ne-eqb (byte t (16 * i + 14)) 0 h))
+
+        pub spare-15 : byte t (16 * i + 13) ≡ 0 → byte t (16 * i + 14) ≡ 0 → eqb (byte t (16 * i + 15)) 0 ≡ rowRight t i
+        spare-15 e f = sym (spare ∙ rw (e, f))
+
+-- the whole table
+
+module _ (t : List ℕ) where
+  pub wrong-length : (length t ≡ 1024 → ⊥) → true ≡ wrong t
+  unfolding wrong
+  wrong-length h = rw (ne-eqb (length t) 1024 h)
+
+  module _ (long : length t ≡ 1024) where
+    pub wrong-row : (i : ℕ) → i < 64 → rowRight t i ≡ false → true ≡ wrong t
+    unfolding wrong
+    wrong-row i h e = rw (long, every-not 64 (rowRight t) i h e)
+
+    pub wrong-none : ((i : ℕ) → i < 64 → rowRight t i ≡ true) → false ≡ wrong t
+    unfolding wrong
+    wrong-none all = rw (long, every-is 64 (rowRight t) all)
+
+-- what a table that is not wrong has
+pub right-long : (t : List ℕ) → wrong t ≡ false → length t ≡ 1024
+right-long t e = by-equal (length t) 1024 (λ long. long) (λ h. clash (sym (wrong-length t h)) e)

@@ -1,0 +1,5 @@
+pub mod Bytes
+pub mod Checks
+pub mod Requests
+pub mod Answers
+pub mod Table

@@ -1,0 +1,58 @@
+// A request: 8 bytes.
+use crate::Decoded;
+use crate::Request;
+use crate::bytes::number;
+ghost use mathlib.Core.Path.{_≡_};
+ghost use Rattle.wire.specs.Requests.{requestOf, unusedZero, decode};
+
+// The request of a kind that is 1 to 5.
+fn request_of(kind: u8, item: u8, value: u32) -> Request
+    ensures { λ r. ⌜ r ≡ requestOf kind item value ⌝ }
+{
+    match kind {
+        1 => Request::Begin,
+        2 => Request::Read(item),
+        3 => Request::Write(item, value),
+        4 => Request::End,
+        _ => Request::Abandon,
+    }
+}
+
+// The fields that the kind does not use are zero: the item but of a read or a write, the value but of a write, byte 3 always.
+fn unused_zero(kind: u8, item: u8, spare: u8, value: u32) -> bool
+    ensures { λ r. ⌜ r ≡ unusedZero kind item spare value ⌝ }
+{
+    if spare != 0 {
+        return false;
+    }
+    if kind == 3 {
+        return true;
+    }
+    if value != 0 {
+        return false;
+    }
+    if kind == 2 {
+        return true;
+    }
+    item == 0
+}
+
+// Checks 1 to 3, in their order.
+pub fn decode(bytes: [u8; 8]) -> Decoded
+    ensures { λ r. ⌜ r ≡ decode bytes ⌝ }
+{
+    let kind = bytes[0];
+    let desk = bytes[1];
+    let item = bytes[2];
+    let value = number(bytes[4], bytes[5], bytes[6], bytes[7]);
+    if kind == 0 || kind > 5 {
+        return Decoded::Malformed(1);
+    }
+    if desk > 15 {
+        return Decoded::Malformed(2);
+    }
+    if !unused_zero(kind, item, bytes[3], value) {
+        return Decoded::Malformed(3);
+    }
+    Decoded::Asked(desk, request_of(kind, item, value))
+}
