@@ -141,7 +141,7 @@ granted b d End = ended (b .sets) (b .number) (deskAt b d)
 granted b d Abandon = Abandoned
 
 -- to request r of desk d
-abbrev pub answered : Board → ℕ → Request → Answer
+unfoldable pub answered : Board → ℕ → Request → Answer
 answered b d r =
     let n = refusal b d r in
     cond (eqb n 0) (granted b d r) (Refused n)
@@ -233,5 +233,5 @@ step b bytes = stepped b (decode bytes)
 
 -- opens all of them, for what is to be computed
 unfoldable pub rules : Unit {0}
-unfolding eldest firstStale answer filled follow step
+unfolding eldest firstStale answered answer filled follow step
 rules = tt

@@ -1,8 +1,19 @@
-// The board and its desks.
+// The board and its desks. `answer` decides and changes nothing; `follow` changes and decides nothing.
+mod answering;
+mod following;
+mod locks;
+mod validation;
+
 use counters::Age;
 use counters::Number;
+use crate::answering::answer;
+use crate::following::follow;
 use items::Items;
 use wire::Answer;
+use wire::requests::decode;
+ghost use mathlib.Core.Path.{_≡_};
+ghost use Rattle.board.specs.Rules.{step};
+ghost use Rattle.board.specs.Reached.{Reached};
 
 // A desk's record: its open transaction, or all zero. It has no padding, so that it is copied whole.
 #[repr(C)]
@@ -31,4 +42,18 @@ pub struct Board {
 pub struct Stepped {
     pub board: Board,
     pub answer: Answer,
+}
+
+// One request of 8 bytes, whatever they are. Of the board it supposes only what an opening and such calls can have left.
+pub fn step(board: Board, request: [u8; 8]) -> Stepped
+    requires { ⌜ Reached board ⌝ }
+    ensures { λ r. ⌜ r ≡ step board request ⌝ }
+{
+    let asked = decode(request);
+    let answer = answer(board, asked);
+    let after = follow(board, asked, answer);
+    Stepped {
+        board: after,
+        answer,
+    }
 }

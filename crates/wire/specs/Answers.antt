@@ -30,3 +30,14 @@ recordOf code desk item reason first second = code ∷ desk ∷ item ∷ reason 
 
 unfoldable pub encode : ℕ → Answer → List ℕ
 encode desk a = let f = fields a in recordOf (byte f 0) desk (byte f 1) (byte f 2) (byte f 3) (byte f 4)
+
+-- the item of a value given or stored
+abbrev pub itemOf : Answer → ℕ
+itemOf (Refused n) = 0
+itemOf (Opened a s) = 0
+itemOf (Value i v) = i
+itemOf (Stored i) = i
+itemOf (Wait i) = 0
+itemOf (Committed n) = 0
+itemOf Abandoned = 0
+itemOf (Aborted why) = 0

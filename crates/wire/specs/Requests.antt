@@ -45,10 +45,13 @@ deskOf (Asked d r) = d
 deskOf (Malformed n) = 0
 
 -- the value of a write
+abbrev pub valueIn : Request → ℕ
+valueIn Begin = 0
+valueIn (Read i) = 0
+valueIn (Write i v) = v
+valueIn End = 0
+valueIn Abandon = 0
+
 abbrev pub valueOf : Decoded → ℕ
+valueOf (Asked d r) = valueIn r
 valueOf (Malformed n) = 0
-valueOf (Asked d Begin) = 0
-valueOf (Asked d (Read i)) = 0
-valueOf (Asked d (Write i v)) = v
-valueOf (Asked d End) = 0
-valueOf (Asked d Abandon) = 0

@@ -3,7 +3,7 @@ use crate::Decoded;
 use crate::Request;
 use crate::bytes::number;
 ghost use mathlib.Core.Path.{_≡_};
-ghost use Rattle.wire.specs.Requests.{requestOf, unusedZero, decode};
+ghost use Rattle.wire.specs.Requests.{requestOf, unusedZero, valueIn, decode, deskOf, valueOf};
 
 // The request of a kind that is 1 to 5.
 fn request_of(kind: u8, item: u8, value: u32) -> Request
@@ -37,6 +37,19 @@ fn unused_zero(kind: u8, item: u8, spare: u8, value: u32) -> bool
     item == 0
 }
 
+// The value of a write, 0 of any other.
+fn value(r: Request) -> u32
+    ensures { λ v. ⌜ v ≡ valueIn r ⌝ }
+{
+    match r {
+        Request::Begin => 0,
+        Request::Read(_) => 0,
+        Request::Write(_, v) => v,
+        Request::End => 0,
+        Request::Abandon => 0,
+    }
+}
+
 // Checks 1 to 3, in their order.
 pub fn decode(bytes: [u8; 8]) -> Decoded
     ensures { λ r. ⌜ r ≡ decode bytes ⌝ }
@@ -55,4 +68,24 @@ pub fn decode(bytes: [u8; 8]) -> Decoded
         return Decoded::Malformed(3);
     }
     Decoded::Asked(desk, request_of(kind, item, value))
+}
+
+// The desk that asks, 0 where the record is malformed.
+pub fn desk_of(asked: Decoded) -> usize
+    ensures { λ r. ⌜ r ≡ deskOf asked ⌝ }
+{
+    match asked {
+        Decoded::Asked(d, _) => d as usize,
+        Decoded::Malformed(_) => 0,
+    }
+}
+
+// The value of a write, 0 of any other.
+pub fn value_of(asked: Decoded) -> u32
+    ensures { λ r. ⌜ r ≡ valueOf asked ⌝ }
+{
+    match asked {
+        Decoded::Asked(_, r) => value(r),
+        Decoded::Malformed(_) => 0,
+    }
 }

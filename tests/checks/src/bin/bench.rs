@@ -1,0 +1,116 @@
+//! The benchmark: the compiled library and the second scheduler on the same
+//! streams, in turns, in one process.
+
+use checks::{compare, Coverage};
+use std::hint::black_box;
+use std::process::Command;
+use std::time::Instant;
+use streams::{bench_case, Case};
+
+const STREAMS: u64 = 8;
+const ROUNDS: usize = 25;
+
+type Way = fn(&Case, usize, &mut [u8], &mut [u8]);
+
+fn run(case: &Case, requests: usize, answers: &mut [u8], values: &mut [u8]) {
+    library::run(&case.table, &case.requests[..requests * 8], answers, values);
+}
+
+#[cfg(feature = "steps")]
+fn steps(case: &Case, requests: usize, answers: &mut [u8], _values: &mut [u8]) {
+    let mut board = library::Board::open(&case.table).expect("a right table");
+    let records = case.records().take(requests);
+    for (request, answer) in records.zip(answers.chunks_exact_mut(12)) {
+        answer.copy_from_slice(&board.step(request));
+    }
+}
+
+fn second(case: &Case, requests: usize, answers: &mut [u8], values: &mut [u8]) {
+    scheduler::run(&case.table, &case.requests[..requests * 8], answers, values);
+}
+
+/// Seconds for one pass over the streams, cut to so many requests each.
+fn pass(way: Way, cases: &[Case], requests: usize, repeats: usize) -> f64 {
+    let mut answers = vec![0; 12 * requests];
+    let mut values = vec![0; 256];
+    let began = Instant::now();
+    for _ in 0..repeats {
+        for case in cases {
+            way(black_box(case), requests, &mut answers, &mut values);
+            black_box((&answers, &values));
+        }
+    }
+    began.elapsed().as_secs_f64() / repeats as f64
+}
+
+/// Requests per second of each way: the median of rounds taken in turns.
+fn rates(ways: &[Way], cases: &[Case], requests: usize) -> Vec<f64> {
+    let repeats = (4_096 / requests).max(2);
+    let mut times = vec![Vec::new(); ways.len()];
+    for _ in 0..ROUNDS {
+        for (way, times) in ways.iter().zip(&mut times) {
+            times.push(pass(*way, cases, requests, repeats));
+        }
+    }
+    let done = (cases.len() * requests) as f64;
+    let median = |times: &mut Vec<f64>| {
+        times.sort_by(f64::total_cmp);
+        done / times[times.len() / 2]
+    };
+    times.iter_mut().map(median).collect()
+}
+
+/// Bytes of code in the archive: the text column of `size`, summed.
+fn text_bytes() -> Option<u64> {
+    let output = Command::new("size").arg(library::ARCHIVE).output().ok()?;
+    let text = String::from_utf8(output.stdout).ok()?;
+    let rows = text.lines().skip(1);
+    Some(
+        rows.filter_map(|row| row.split_whitespace().next()?.parse::<u64>().ok())
+            .sum(),
+    )
+}
+
+fn main() {
+    let cases: Vec<Case> = (1..=STREAMS).map(bench_case).collect();
+    let ways: Vec<(&str, Way)> = vec![
+        ("hub_run", run),
+        #[cfg(feature = "steps")]
+        ("hub_step", steps),
+        ("scheduler", second),
+    ];
+    let functions: Vec<Way> = ways.iter().map(|way| way.1).collect();
+    println!("{STREAMS} streams, 16 desks, 12 hot items, a third guarded, {ROUNDS} rounds");
+
+    // Only streams on which both agree are timed.
+    let mut coverage = Coverage::default();
+    for case in &cases {
+        coverage.count(&compare(case).unwrap_or_else(|why| panic!("{why}")));
+    }
+    println!("answers of code 0 to 7: {:?}", coverage.codes);
+
+    println!("nanoseconds for a request, opening and final values included:");
+    let names: Vec<String> = ways.iter().map(|way| format!("{:>10}", way.0)).collect();
+    println!("  requests {}", names.join(""));
+    for requests in [64, 128, 256, 512, 1_024, 2_048, 4_096] {
+        let rates = rates(&functions, &cases, requests);
+        let row: Vec<String> = rates
+            .iter()
+            .map(|rate| format!("{:>10.1}", 1e9 / rate))
+            .collect();
+        println!("  {requests:>8} {}", row.join(""));
+    }
+
+    let rates = rates(&functions, &cases, 4_096);
+    let baseline = rates[rates.len() - 1];
+    println!("requests per second at 4,096 requests:");
+    for ((name, _), rate) in ways.iter().zip(&rates) {
+        println!("  {name:>9} {rate:>12.0}  ratio {:.3}", rate / baseline);
+    }
+    let text = text_bytes().map_or("unknown".to_string(), |bytes| bytes.to_string());
+    println!(
+        "bench requests_per_second={:.0} ratio={:.3} text_bytes={text}",
+        rates[0],
+        rates[0] / baseline
+    );
+}

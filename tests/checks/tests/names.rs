@@ -1,0 +1,72 @@
+//! Desks are told apart by their ages alone: if all desks change names, the
+//! answers change their desk byte and nothing else, and once all desks are
+//! free the board doesn't tell who did what.
+
+use checks::{each, library_run, rerun};
+use streams::{Case, Random};
+
+/// A new name for each desk; bytes that name no desk stay.
+fn new_names(random: &mut Random) -> Vec<u8> {
+    let mut names: Vec<u8> = (0..=255).collect();
+    for place in (1..16).rev() {
+        names.swap(place, random.below(place + 1));
+    }
+    names
+}
+
+fn renamed(case: &Case, names: &[u8]) -> Case {
+    let mut renamed = case.clone();
+    for record in renamed.requests.chunks_exact_mut(8) {
+        record[1] = names[record[1] as usize];
+    }
+    renamed
+}
+
+fn check(case: &Case) -> Result<(), String> {
+    let names = new_names(&mut Random::new(case.seed ^ 0x4A3E));
+    let other = renamed(case, &names);
+    let (run, other_run) = (library_run(case)?, library_run(&other)?);
+    if run.count != other_run.count || run.values != other_run.values {
+        return Err("new names change the count or a final value".to_string());
+    }
+    let pairs = run.answers.chunks(12).zip(other_run.answers.chunks(12));
+    for (place, (answer, other)) in pairs.enumerate() {
+        let same = answer[0] == other[0] && answer[2..] == other[2..];
+        if !same || names[answer[1] as usize] != other[1] {
+            return Err(format!("new names change answer {place}"));
+        }
+    }
+    same_board(case, &other)
+}
+
+#[cfg(feature = "steps")]
+fn same_board(case: &Case, other: &Case) -> Result<(), String> {
+    let all_free = |case: &Case| {
+        let mut board = library::Board::open(&case.table).ok()?;
+        for request in case.records() {
+            board.step(request);
+        }
+        for desk in 0..16 {
+            board.step(&streams::abandon(desk));
+        }
+        Some(board)
+    };
+    if all_free(case) != all_free(other) {
+        return Err("a free desk left a trace on the board".to_string());
+    }
+    Ok(())
+}
+
+#[cfg(not(feature = "steps"))]
+fn same_board(_: &Case, _: &Case) -> Result<(), String> {
+    Ok(())
+}
+
+#[test]
+fn desks_may_change_names() {
+    each(8, |case| {
+        if let Err(why) = check(case) {
+            panic!("{}\n{why}", rerun(case));
+        }
+    });
+}

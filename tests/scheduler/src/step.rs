@@ -1,0 +1,87 @@
+//! One request handed to a board.
+
+use crate::ending::end;
+use crate::locks::{ask, Lock};
+use crate::refusals::refusal;
+use crate::{Answer, Board, Kind, Request};
+
+impl Board {
+    /// Handles one request in place and gives its answer's record.
+    #[inline]
+    pub fn handle(&mut self, record: &[u8; 8]) -> [u8; 12] {
+        let request = Request::from_record(record);
+        let answer = match refusal(self, &request) {
+            Some(reason) => Answer::Refused { reason },
+            None => serve(self, &request),
+        };
+        answer.record(request.desk)
+    }
+}
+
+/// A request that no refusal applies to.
+fn serve(board: &mut Board, request: &Request) -> Answer {
+    let desk = request.desk as usize;
+    match request.kind {
+        Request::BEGIN => begin(board, desk),
+        Request::READ => read(board, desk, request.item),
+        Request::WRITE => write(board, desk, request.item, request.value),
+        Request::END => end(board, desk),
+        _ => {
+            board.desks[desk].free();
+            Answer::Abandoned
+        }
+    }
+}
+
+fn begin(board: &mut Board, desk: usize) -> Answer {
+    board.last_age += 1;
+    let (age, start) = (board.last_age, board.last_number);
+    let desk = &mut board.desks[desk];
+    desk.open = true;
+    desk.age = age;
+    desk.start = start;
+    Answer::Opened { age, start }
+}
+
+fn read(board: &mut Board, desk: usize, item: u8) -> Answer {
+    let place = item as usize;
+    match board.items[place].kind {
+        Kind::Open => board.desks[desk].read.join(place),
+        Kind::Guarded => {
+            if !board.desks[desk].written.has(place) {
+                match ask(board, desk, place, false) {
+                    Lock::Granted => board.desks[desk].shared.join(place),
+                    Lock::Wait => return Answer::Wait { item },
+                    Lock::Yield => return give_way(board, desk, item),
+                }
+            }
+        }
+    }
+    let own = &board.desks[desk];
+    let value = if own.written.has(place) {
+        own.copies[place]
+    } else {
+        board.values[place]
+    };
+    Answer::Value { item, value }
+}
+
+fn write(board: &mut Board, desk: usize, item: u8, value: u32) -> Answer {
+    let place = item as usize;
+    if board.items[place].kind == Kind::Guarded {
+        match ask(board, desk, place, true) {
+            Lock::Granted => board.desks[desk].shared.leave(place),
+            Lock::Wait => return Answer::Wait { item },
+            Lock::Yield => return give_way(board, desk, item),
+        }
+    }
+    let own = &mut board.desks[desk];
+    own.written.join(place);
+    own.copies[place] = value;
+    Answer::Stored { item }
+}
+
+fn give_way(board: &mut Board, desk: usize, item: u8) -> Answer {
+    board.desks[desk].free();
+    Answer::Yield { item }
+}
