@@ -1,8 +1,8 @@
 // The board after an answer.
-use counters::Age;
-use counters::Number;
 use crate::Board;
 use crate::Desk;
+use counters::Age;
+use counters::Number;
 use items::Items;
 use wire::Answer;
 use wire::Decoded;

@@ -4,10 +4,10 @@ mod following;
 mod locks;
 mod validation;
 
-use counters::Age;
-use counters::Number;
 use crate::answering::answer;
 use crate::following::follow;
+use counters::Age;
+use counters::Number;
 use items::Items;
 use wire::Answer;
 use wire::requests::decode;

@@ -1,7 +1,7 @@
 // Who holds a guarded item.
 use crate::Desk;
-use counters::Age;
 use crate::following::idle;
+use counters::Age;
 use items::Items;
 use wire::Answer;
 use wire::Reason;
@@ -65,7 +65,14 @@ fn holder(desks: [Desk; 16], guarded: Items, d: usize, i: usize, w: bool) -> usi
 }
 
 // What is granted, or wait, or yield.
-pub fn locked(desks: [Desk; 16], guarded: Items, d: usize, i: u8, w: bool, granted: Answer) -> Answer
+pub fn locked(
+    desks: [Desk; 16],
+    guarded: Items,
+    d: usize,
+    i: u8,
+    w: bool,
+    granted: Answer,
+) -> Answer
     requires { ⌜ d < 16 ⌝ }
     requires { ⌜ i < 64 ⌝ }
     ensures { λ r. ⌜ r ≡ locked desks guarded d i w granted ⌝ }

@@ -1,6 +1,6 @@
 // Validation at the end: what was read against the write sets of later numbers.
-use counters::Number;
 use crate::Desk;
+use counters::Number;
 use items::Items;
 use wire::Answer;
 use wire::Reason;

@@ -10,18 +10,18 @@ use Rattle.wire.specs.declared.Answer.the-variants.{Refused, Opened, Val
 -- what an aborted answer fills: item, reason, first number
 abbrev pub aborted : Reason → List ℕ
 aborted (Overwritten i n) = 7 ∷ i ∷ 1 ∷ n .0 ∷ 0 ∷ []
-aborted (TooOld s)        = 7 ∷ 0 ∷ 2 ∷ s .0 ∷ 0 ∷ []
-aborted (Yield i)         = 7 ∷ i ∷ 3 ∷ 0    ∷ 0 ∷ []
+aborted (TooOld s) = 7 ∷ 0 ∷ 2 ∷ s .0 ∷ 0 ∷ []
+aborted (Yield i) = 7 ∷ i ∷ 3 ∷ 0 ∷ 0 ∷ []
 
 -- code, item, reason, first and second number; zero where nothing is said
 abbrev pub fields : Answer → List ℕ
-fields (Refused n)   = 0 ∷ 0 ∷ n ∷ 0    ∷ 0    ∷ []
-fields (Opened a s)  = 1 ∷ 0 ∷ 0 ∷ a .0 ∷ s .0 ∷ []
-fields (Value i v)   = 2 ∷ i ∷ 0 ∷ v    ∷ 0    ∷ []
-fields (Stored i)    = 3 ∷ i ∷ 0 ∷ 0    ∷ 0    ∷ []
-fields (Wait i)      = 4 ∷ i ∷ 0 ∷ 0    ∷ 0    ∷ []
-fields (Committed n) = 5 ∷ 0 ∷ 0 ∷ n .0 ∷ 0    ∷ []
-fields Abandoned     = 6 ∷ 0 ∷ 0 ∷ 0    ∷ 0    ∷ []
+fields (Refused n) = 0 ∷ 0 ∷ n ∷ 0 ∷ 0 ∷ []
+fields (Opened a s) = 1 ∷ 0 ∷ 0 ∷ a .0 ∷ s .0 ∷ []
+fields (Value i v) = 2 ∷ i ∷ 0 ∷ v ∷ 0 ∷ []
+fields (Stored i) = 3 ∷ i ∷ 0 ∷ 0 ∷ 0 ∷ []
+fields (Wait i) = 4 ∷ i ∷ 0 ∷ 0 ∷ 0 ∷ []
+fields (Committed n) = 5 ∷ 0 ∷ 0 ∷ n .0 ∷ 0 ∷ []
+fields Abandoned = 6 ∷ 0 ∷ 0 ∷ 0 ∷ 0 ∷ []
 fields (Aborted why) = aborted why
 
 -- the 12 bytes

@@ -18,18 +18,20 @@ with-requires-2 c κs = search needs
 
 returns-2 : tie.Need-returns-2
 returns-2 c =
-    rw
-    (not-false (c .before .before .before .before .args .guarded) (c .before .before .before .if1 .left),
-    ← c .before .before .has .ensures,
-    not-true (c .before .before .has .result) (c .before .if2 .taken),
-    c .with2 .ensures)
+    rw (
+      not-false (c .before .before .before .before .args .guarded) (c .before .before .before .if1 .left),
+      ← c .before .before .has .ensures,
+      not-true (c .before .before .has .result) (c .before .if2 .taken),
+      c .with2 .ensures,
+    )
 
 returns-3 : tie.Need-returns-3
 returns-3 c =
-    rw
-    (not-false (c .before .before .before .args .guarded) (c .before .before .if1 .left),
-    ← c .before .has .ensures,
-    not-false (c .before .has .result) (c .if2 .left))
+    rw (
+      not-false (c .before .before .before .args .guarded) (c .before .before .if1 .left),
+      ← c .before .has .ensures,
+      not-false (c .before .has .result) (c .if2 .left),
+    )
 
 pub reading-spec : {M : Type 1} → statement M
 reading-spec =

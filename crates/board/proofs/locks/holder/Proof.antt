@@ -5,8 +5,8 @@ use mathlib.Core.Logic.{⊎-elim}
 use native.Mathlib.Omega.{arith}
 use borrow.Author.Needs.{needs}
 use Rattle.board.specs.Rules.{conflicts, deskIn}
-use Rattle.board.proofs.Eldest.{FoundBelow, found-none, found-passed, found-older}
-use Rattle.board.proofs.Others.{holder-others}
+use Rattle.board.proofs.Found.{FoundBelow, found-none, found-passed, found-older}
+use Rattle.board.proofs.Locking.{holder-others}
 use Rattle.board.proofs.locks.holder.Statement.{statement}
 use Rattle.board.proofs.locks.holder.Tie as tie
 
@@ -47,18 +47,20 @@ loop-less : tie.Need-loop-less Inv-loop μ-loop
 loop-less c = search needs
 
 loop-again : tie.Need-loop-again Inv-loop μ-loop
-loop-again c = (omega arith, 
+loop-again c = (
+  omega arith,
   ⊎-elim
       (λ w. rw (w .2, w .1 .ensures) (found-older _ _ _ _ (c .before .before .before .before .loop .inv .1) (sym (c .before .conflicts .ensures) ∙ w .0 .taken) _ refl))
       (λ w. rw (w .1) (found-passed _ _ _ _ (c .before .before .before .before .loop .inv .1) (sym (c .before .conflicts .ensures) ∙ w .0 .left)))
-      (c .if1 .came))
+      (c .if1 .came),
+)
 
 returns : tie.Need-returns Inv-loop μ-loop
 returns c =
     let e : c .before .loop .e ≡ 16 = omega arith in
     let given = c .before .before .before .args in
     (rw e at (c .before .loop .inv .1 .desk))
-    ∙ rw (c .before .before .idle .ensures) (holder-others (given .t1) (given .guarded) (given .d) (given .i) (given .w) (search needs) (c .before .before .before .pre .2))
+    ∙ rw (c .before .before .idle .ensures) (holder-others (given .desks) (given .guarded) (given .d) (given .i) (given .w) (search needs) (c .before .before .before .pre .2))
 
 pub holder-spec : {M : Type 1} → statement M
 holder-spec =

@@ -1,18 +1,23 @@
--- The code looks for a holder among the other desks: the desks with the asker's own put to idle. That finds the holder of the rules.
+-- Locks as the code has them. It looks for a holder among the other desks: the desks with the asker's own put to idle. That finds the holder of the rules.
 use mathlib.Core.Path.{_≡_, refl, ap, sym, _∙_}
 use mathlib.Core.Bool.{Bool, true, false, not, _&&_, and-false}
 use mathlib.Core.List.{List}
-use Prim.Native.Nat.{ℕ, _<_}
+use Prim.Native.Nat.{ℕ, _≤_, _<_}
+use native.Mathlib.Nat.{le-refl, le-antisymm, lt-irrefl}
 use borrow.Author.Tests.{eq-eqb, ne-eqb}
+use lib.Dec.{eqb, ltb}
 use lib.ListN.{set, length}
 use lib.Seq.{getD-set-same, getD-set-other}
 use Rattle.items.specs.Items.{has}
 use Rattle.items.specs.declared.Items.{Items}
 use Rattle.items.proofs.Tests.{by-equal, clash}
 use Rattle.items.proofs.Laws.{has-none}
-use Rattle.board.specs.Rules.{idle, beyond, deskIn, conflicts, inTheWay, eldest, holder}
+use Rattle.wire.specs.declared.Reason.the-variants.{Yield}
+use Rattle.wire.specs.declared.Answer.{Answer}
+use Rattle.wire.specs.declared.Answer.the-variants.{Wait, Aborted}
+use Rattle.board.specs.Rules.{idle, beyond, deskIn, conflicts, inTheWay, eldest, holder, locked}
 use Rattle.board.specs.declared.Desk.{Desk}
-use Rattle.board.proofs.Eldest.{eldest-same, eldest-out}
+use Rattle.board.proofs.Eldest.{eldest-le, eldest-same, eldest-out}
 
 idle-clear : (i : ℕ) (w : Bool) → conflicts idle i w ≡ false
 idle-clear i w = rw (has-none i) (and-false w)
@@ -48,6 +53,26 @@ module _ (desks : List Desk) (guarded : Items) (d i : ℕ) (w : Bool) (low : d <
       eldest-same (λ e. conflicts (deskIn others e) i w) (inTheWay desks guarded d i w) (λ e. deskIn others e .age .0) (λ e. deskIn desks e .age .0)
       test-same age-same 16
 
--- an open item has no holder
-pub holder-open : (desks : List Desk) (guarded : Items) (d i : ℕ) (w : Bool) → has guarded i ≡ false → holder desks guarded d i w ≡ 16
-holder-open desks guarded d i w o = eldest-out (inTheWay desks guarded d i w) (λ e. deskIn desks e .age .0) 16 (λ e h. rw o)
+-- ---- what is answered
+
+module _ (desks : List Desk) (guarded : Items) (d i : ℕ) (w : Bool) (granted : Answer) where
+  -- an open item has no holder
+  pub locked-open : has guarded i ≡ false → granted ≡ locked desks guarded d i w granted
+  locked-open o =
+      rw (eldest-out (inTheWay desks guarded d i w) (λ e. deskIn desks e .age .0) 16 (λ e h. rw o))
+
+  module _ (e : ℕ) (found : e ≡ holder desks guarded d i w) where
+    pub locked-free : 16 ≤ e → granted ≡ locked desks guarded d i w granted
+    locked-free h =
+        let none : e ≡ 16 = le-antisymm (rw found (eldest-le (inTheWay desks guarded d i w) (λ n. deskIn desks n .age .0) 16 (le-refl 16))) h in
+        rw (← found, none)
+
+    module _ (some : e < 16) where
+      other : eqb e 16 ≡ false
+      other = ne-eqb e 16 (λ q. lt-irrefl 16 (rw q at some))
+
+      pub locked-wait : ltb (deskIn desks d .age .0) (deskIn desks e .age .0) ≡ true → Wait i ≡ locked desks guarded d i w granted
+      locked-wait t = rw (← found, other, t)
+
+      pub locked-yield : ltb (deskIn desks d .age .0) (deskIn desks e .age .0) ≡ false → Aborted (Yield i) ≡ locked desks guarded d i w granted
+      locked-yield f = rw (← found, other, f)

@@ -1,0 +1,138 @@
+-- What holds of each desk's record, and of the locks of two: a desk just freed or begun, a read and a write keep it. No board is in it.
+use mathlib.Core.Path.{_≡_, refl, sym, _∙_}
+use mathlib.Core.Logic.{_≢_}
+use mathlib.Core.Bool.{true, false, not, _&&_}
+use mathlib.Core.List.{List}
+use Prim.Native.Nat.{ℕ, zero, suc, _<_, _≤_}
+use lib.ListN.{getD, set, length, length-set, replicate}
+use lib.Seq.{getD-set-same, getD-set-other}
+use Rattle.items.specs.Items.{has, none}
+use Rattle.items.specs.declared.Items.{Items}
+use Rattle.items.proofs.Tests.{by-cond, by-equal, clash, or-left, or-right, or-both}
+use Rattle.items.proofs.Laws.{has-none, with-same, with-other, with-less, without-other}
+use Rattle.counters.specs.declared.Age.{Age}
+use Rattle.counters.specs.declared.Number.{Number}
+use Rattle.board.specs.Rules.{idle, opened, beyond, deskIn, isOpen, copyOf, reading, writing}
+use Rattle.board.specs.declared.Desk.{Desk}
+use Rattle.board.proofs.Granted.{holds}
+
+-- of one desk, where these items are guarded and this is the last number
+pub record DeskSound (guarded : Items) (number : ℕ) (k : Desk) : Type 0 where
+  pub started : k .start .0 ≤ number
+  pub room : length (k .copies) ≡ 64
+  pub unwritten : (i : ℕ) → has (k .written) i ≡ false → copyOf k i ≡ 0
+  pub unread : (i : ℕ) → has guarded i ≡ true → has (k .read) i ≡ false
+  pub closed : isOpen k ≡ false → k ≡ idle
+
+-- m holds no guarded item that k has written
+abbrev pub Excludes : Items → Desk → Desk → Type 0
+Excludes guarded k m = (i : ℕ) → has guarded i ≡ true → has (k .written) i ≡ true → holds m i ≡ false
+
+abbrev pub Locks : Items → List Desk → Type 0
+Locks guarded desks = (d e : ℕ) → d < 16 → e < 16 → d ≢ e → Excludes guarded (deskIn desks d) (deskIn desks e)
+
+-- one desk's record changes: what it and each other have to do with one another decides
+pub locks-set :
+    (guarded : Items) (desks : List Desk) → Locks guarded desks → (d : ℕ) (k : Desk) → d < length desks
+    → ((e : ℕ) → e < 16 → e ≢ d → Excludes guarded k (deskIn desks e) × Excludes guarded (deskIn desks e) k)
+    → Locks guarded (set desks d k)
+locks-set guarded desks locks d k hd new e f he hf n =
+    by-equal e d
+    (λ p. rw (p, getD-set-same desks d k beyond hd, getD-set-other desks d f k beyond (λ q. n (p ∙ sym q))) (new f hf (λ q. n (p ∙ sym q)) .0))
+    (λ p.
+    rw (getD-set-other desks d e k beyond p)
+    (by-equal f d
+    (λ q. rw (q, getD-set-same desks d k beyond hd) (new e he p .1))
+    (λ q. rw (getD-set-other desks d f k beyond q) (locks e f he hf n))))
+
+-- ---- a desk that has done nothing
+
+pub record Blank (k : Desk) : Type 0 where
+  pub read : k .read ≡ none
+  pub shared : k .shared ≡ none
+  pub written : k .written ≡ none
+  pub copies : k .copies ≡ replicate 64 0
+
+pub idle-blank : Blank idle
+idle-blank = record { read = refl; shared = refl; written = refl; copies = refl }
+
+pub opened-blank : (a : Age) (s : Number) → Blank (opened a s)
+opened-blank a s = record { read = refl; shared = refl; written = refl; copies = refl }
+
+zeros : (n i : ℕ) → getD {A = ℕ} (replicate n 0) i 0 ≡ 0
+zeros zero i = refl
+zeros (suc n) zero = refl
+zeros (suc n) (suc i) = zeros n i
+
+module _ {k : Desk} (blank : Blank k) where
+  pub blank-written : (i : ℕ) → has (k .written) i ≡ false
+  blank-written i = rw (blank .written) (has-none i)
+
+  blank-holds : (i : ℕ) → holds k i ≡ false
+  blank-holds i = or-both (has (k .written) i) (has (k .shared) i) (blank-written i) (rw (blank .shared) (has-none i))
+
+  pub blank-excludes : (guarded : Items) (m : Desk) → Excludes guarded k m × Excludes guarded m k
+  blank-excludes guarded m = ((λ i g w. clash w (blank-written i)), (λ i g w. blank-holds i))
+
+  pub blank-sound : {guarded : Items} {number : ℕ} → k .start .0 ≤ number → (isOpen k ≡ false → k ≡ idle) → DeskSound guarded number k
+  blank-sound s c =
+      record {
+        started = s;
+        room = rw (blank .copies);
+        unwritten = λ i w. rw (blank .copies) (zeros 64 i);
+        unread = λ i g. rw (blank .read) (has-none i);
+        closed = c;
+      }
+
+-- ---- a read of item i
+
+module _ (guarded : Items) (k : Desk) (i : ℕ) where
+  pub reading-sound : {number : ℕ} → DeskSound guarded number k → isOpen k ≡ true → DeskSound guarded number (reading k i (has guarded i))
+  reading-sound ok busy =
+      record {
+        started = ok .started;
+        room = ok .room;
+        unwritten = ok .unwritten;
+        unread =
+            λ j g.
+            by-cond (λ (s : Items). has s j ≡ false) (has guarded i) (λ t. ok .unread j g)
+            (λ f. with-other (k .read) i j (λ q. clash g (rw q f)) ∙ ok .unread j g);
+        closed = λ f. clash busy f;
+      }
+
+  -- item i is the one item that may be newly shared
+  pub reading-excludes : (m : Desk) → (has guarded i ≡ true → has (m .written) i ≡ false) → Excludes guarded m k → Excludes guarded m (reading k i (has guarded i))
+  reading-excludes m lock ex j g w =
+      or-both (has (k .written) j) _ (or-left _ _ (ex j g w))
+      (by-cond (λ (s : Items). has s j ≡ false) (has guarded i && not (has (k .written) i))
+      (λ t. with-other (k .shared) i j (λ q. clash w (rw q (lock (rw (← q) g)))) ∙ or-right (has (k .written) j) _ (ex j g w))
+      (λ f. or-right (has (k .written) j) _ (ex j g w)))
+
+-- ---- a write of item i
+
+module _ (guarded : Items) (k : Desk) (i v : ℕ) where
+  pub writing-sound : {number : ℕ} → DeskSound guarded number k → isOpen k ≡ true → DeskSound guarded number (writing k i v)
+  writing-sound ok busy =
+      record {
+        started = ok .started;
+        room = length-set (k .copies) i v ∙ ok .room;
+        unwritten =
+            λ j w.
+            getD-set-other (k .copies) i j v 0 (λ q. clash (with-same (k .written) i) (rw q at w))
+            ∙ ok .unwritten j (with-less (k .written) i j w);
+        unread = ok .unread;
+        closed = λ f. clash busy f;
+      }
+
+  -- nothing changes at another item
+  pub writing-holds : (j : ℕ) → j ≢ i → holds (writing k i v) j ≡ holds k j
+  writing-holds j n = rw (with-other (k .written) i j n, without-other (k .shared) i j n)
+
+  module _ (m : Desk) (lock : has guarded i ≡ true → holds m i ≡ false) where
+    pub writing-excludes : Excludes guarded k m → Excludes guarded (writing k i v) m
+    writing-excludes ex j g w =
+        by-equal j i (λ q. rw q (lock (rw (← q) g))) (λ n. ex j g (sym (with-other (k .written) i j n) ∙ w))
+
+    pub excludes-writing : Excludes guarded m k → Excludes guarded m (writing k i v)
+    excludes-writing ex j g w =
+        by-equal j i (λ q. clash w (rw q (or-left _ _ (lock (rw (← q) g))))) (λ n. writing-holds j n ∙ ex j g w)
