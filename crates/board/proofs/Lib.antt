@@ -7,7 +7,7 @@
 --   Replay                                the second demand
 --   Due, Seen, Done                       which answers a request gets, what it can see of a board, what its answer does to it
 --   Pair, Exchange, Worded                two requests that are apart; the third demand; the same by their bytes
---   Example, Needed, Shams                what computes: each condition is needed, and no sham hub meets the demands
+--   Needed, Shams                         what computes: each condition is needed, and no sham hub meets the demands
 pub mod Filled
 pub mod Eldest
 pub mod Stale
@@ -32,6 +32,5 @@ pub mod Done
 pub mod Pair
 pub mod Exchange
 pub mod Worded
-pub mod Example
 pub mod Needed
 pub mod Shams

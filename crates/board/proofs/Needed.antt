@@ -19,7 +19,7 @@ use Rattle.board.specs.Rules.{rules}
 use Rattle.board.specs.Opening.{opening}
 use Rattle.board.specs.Demands.{next, reply, isFrom, bounds, concerns, Apart}
 use Rattle.board.proofs.Exchange.{exchanges}
-use Rattle.board.proofs.Example.{table, table-right, computing, begin, read, write, end, abandon}
+use Rattle.board.specs.Example.{table, table-right, computing, begin, read, write, end, abandon}
 
 -- ---- lists of answers, compared by their numbers
 
@@ -46,80 +46,79 @@ sames-refl (x ∷ xs) = and-in (same x x) (sames xs xs) (same-refl x) (sames-ref
 abbrev shown : List Answer → List (List ℕ)
 shown = map fields
 
--- in the example, after the requests before: p and q have the answers that they have the other way round
-abbrev indifferent : List (List ℕ) → List ℕ → List ℕ → Bool
-indifferent before p q =
-    sames (shown (answers next reply (opening table) (before ++ q ∷ p ∷ []))) (shown (exchange (length before) (answers next reply (opening table) (before ++ p ∷ q ∷ []))))
+-- ---- pairs in the example that are not apart, each but for one condition
 
--- where they have not, they may not be exchanged
-told-apart : (before : List (List ℕ)) (p q : List ℕ) → indifferent before p q ≡ false → Exchanged next reply (opening table) before p q [] → ⊥
-told-apart before p q f e =
-    clash (sames-refl was) (subst (λ (l : List Answer). sames was (shown l) ≡ false) (sym (e .replies)) f)
-  where
-    was : List (List ℕ)
-    was = shown (answers next reply (opening table) (before ++ q ∷ p ∷ []))
+-- the requests before, and the two
+abbrev Case : Type 0
+Case = List (List ℕ) × List ℕ × List ℕ
 
--- ---- each condition is needed: the other two hold
+abbrev two-begins : Case
+two-begins = ([], begin 0, begin 1)
 
-abbrev Desks : List ℕ → List ℕ → Type 0
-Desks p q = (d : ℕ) → (isFrom (decode p) d && isFrom (decode q) d) ≡ false
+abbrev one-desk : Case
+one-desk = ([], begin 0, abandon 0)
 
-abbrev Ends : List ℕ → List ℕ → Type 0
-Ends p q = (bounds (decode p) && bounds (decode q)) ≡ false
+-- an item that both name; one that desk 1 names and desk 0 holds shared, or has written
+abbrev both-name : Case
+both-name = (begin 0 ∷ begin 1 ∷ [], write 0 1 1, write 1 1 1)
 
-abbrev Items : List (List ℕ) → List ℕ → List ℕ → Type 0
-Items before p q =
+abbrev held-before : Case
+held-before = (begin 0 ∷ begin 1 ∷ read 0 1 ∷ [], abandon 0, write 1 1 1)
+
+abbrev written-before : Case
+written-before = (begin 0 ∷ begin 1 ∷ write 0 0 115 ∷ [], end 0, read 1 0)
+
+-- what the answers are with p and q exchanged, and what they would be if that changed none
+abbrev become : Case → List Answer
+become (before, p, q) = answers next reply (opening table) (before ++ q ∷ p ∷ [])
+
+abbrev remain : Case → List Answer
+remain (before, p, q) = exchange (length before) (answers next reply (opening table) (before ++ p ∷ q ∷ []))
+
+abbrev Differ : Case → Type 0
+Differ c = sames (shown (become c)) (shown (remain c)) ≡ false
+
+differ : Differ two-begins × Differ one-desk × Differ both-name × Differ held-before × Differ written-before
+unfolding computing
+differ = (refl, refl, refl, refl, refl)
+
+-- ---- each condition is needed: the other two hold, and the exchange changes an answer
+
+abbrev Desks : Case → Type 0
+Desks (before, p, q) = (d : ℕ) → (isFrom (decode p) d && isFrom (decode q) d) ≡ false
+
+abbrev Ends : Case → Type 0
+Ends (before, p, q) = (bounds (decode p) && bounds (decode q)) ≡ false
+
+abbrev Items : Case → Type 0
+Items (before, p, q) =
     let b = after next (opening table) before in
     (i : ℕ) → i < 64 → (concerns b (decode p) i && concerns b (decode q) i) ≡ false
+
+abbrev Not : Case → Type 0
+Not (before, p, q) = Exchanged next reply (opening table) before p q [] → ⊥
+
+refuted : (c : Case) → Differ c → Not c
+refuted c f e = clash (sames-refl (shown (become c))) (subst (λ (l : List Answer). sames (shown (become c)) (shown l) ≡ false) (sym (e .replies)) f)
 
 pub not-both : (i : ℕ) → (eqb 0 i && eqb 1 i) ≡ false
 not-both i = by-test (eqb 1 i) (λ t. let e = eqb-true 1 i t in rw (← e)) (λ f. rw f (and-false (eqb 0 i)))
 
--- p and q after the requests before may not be exchanged
-abbrev Not : List (List ℕ) → List ℕ → List ℕ → Type 0
-Not before p q = Exchanged next reply (opening table) before p q [] → ⊥
+pub ends-needed : Desks two-begins × Items two-begins × Not two-begins
+unfolding opening decode requestOf unusedZero
+ends-needed = (not-both, (λ i low. rw (has-none i)), refuted two-begins (differ .0))
 
-two-begins-differ : indifferent [] (begin 0) (begin 1) ≡ false
-unfolding computing
-two-begins-differ = refl
+pub desks-needed : Ends one-desk × Items one-desk × Not one-desk
+unfolding opening decode requestOf unusedZero
+desks-needed = (refl, (λ i low. rw (has-none i)), refuted one-desk (differ .1))
 
-pub two-begins : Desks (begin 0) (begin 1) × Items [] (begin 0) (begin 1) × Not [] (begin 0) (begin 1)
-unfolding opening rules decode requestOf unusedZero
-two-begins = (not-both, (λ i low. rw (has-none i)), told-apart [] (begin 0) (begin 1) two-begins-differ)
+abbrev Needed : Case → Type 0
+Needed c = Desks c × Ends c × Not c
 
-one-desk-differ : indifferent [] (begin 0) (abandon 0) ≡ false
-unfolding computing
-one-desk-differ = refl
-
-pub one-desk : Ends (begin 0) (abandon 0) × Items [] (begin 0) (abandon 0) × Not [] (begin 0) (abandon 0)
-unfolding opening rules decode requestOf unusedZero
-one-desk = (refl, (λ i low. rw (has-none i)), told-apart [] (begin 0) (abandon 0) one-desk-differ)
-
--- an item that both name
-both-name-differ : indifferent (begin 0 ∷ begin 1 ∷ []) (write 0 1 1) (write 1 1 1) ≡ false
-unfolding computing
-both-name-differ = refl
-
-pub both-name : Desks (write 0 1 1) (write 1 1 1) × Ends (write 0 1 1) (write 1 1 1) × Not (begin 0 ∷ begin 1 ∷ []) (write 0 1 1) (write 1 1 1)
+pub items-needed : Needed both-name × Needed held-before × Needed written-before
 unfolding decode requestOf unusedZero
-both-name = (not-both, refl, told-apart (begin 0 ∷ begin 1 ∷ []) (write 0 1 1) (write 1 1 1) both-name-differ)
-
--- an item that one names and the other has touched: it holds it shared, or has written it
-locked-before-differ : indifferent (begin 0 ∷ begin 1 ∷ read 0 1 ∷ []) (abandon 0) (write 1 1 1) ≡ false
-unfolding computing
-locked-before-differ = refl
-
-pub locked-before : Desks (abandon 0) (write 1 1 1) × Ends (abandon 0) (write 1 1 1) × Not (begin 0 ∷ begin 1 ∷ read 0 1 ∷ []) (abandon 0) (write 1 1 1)
-unfolding decode requestOf unusedZero
-locked-before = (not-both, refl, told-apart (begin 0 ∷ begin 1 ∷ read 0 1 ∷ []) (abandon 0) (write 1 1 1) locked-before-differ)
-
-written-before-differ : indifferent (begin 0 ∷ begin 1 ∷ write 0 0 115 ∷ []) (end 0) (read 1 0) ≡ false
-unfolding computing
-written-before-differ = refl
-
-pub written-before : Desks (end 0) (read 1 0) × Ends (end 0) (read 1 0) × Not (begin 0 ∷ begin 1 ∷ write 0 0 115 ∷ []) (end 0) (read 1 0)
-unfolding decode requestOf unusedZero
-written-before = (not-both, refl, told-apart (begin 0 ∷ begin 1 ∷ write 0 0 115 ∷ []) (end 0) (read 1 0) written-before-differ)
+items-needed =
+    ((not-both, refl, refuted both-name (differ .2)), (not-both, refl, refuted held-before (differ .3)), (not-both, refl, refuted written-before (differ .4)))
 
 -- ---- an ordinary pair is apart: desk 0 reads item 0 beside desk 1, which writes item 1
 

@@ -31,11 +31,9 @@ module _ (r : Request) (g : Items) (k : Desk) (i v : ℕ) (u : Untouched k i) (u
 
   pub still-untouched : (a : Answer) → Due r a → Untouched (deskAfter g k v a) i
   still-untouched (Refused n) h = u
-  still-untouched (Opened a s) h = record { read = has-none i; shared = has-none i; written = has-none i }
+  still-untouched (Opened a s) h = record { shared = has-none i; written = has-none i }
   still-untouched (Value j x) h =
       record {
-        read =
-            by-cond (λ (s : Items). has s i ≡ false) (has g j) (λ t. u .read) (λ f. with-other (k .read) j i (other j h) ∙ u .read);
         shared =
             by-cond (λ (s : Items). has s i ≡ false) (has g j && not (has (k .written) j))
             (λ t. with-other (k .shared) j i (other j h) ∙ u .shared) (λ f. u .shared);
@@ -43,14 +41,13 @@ module _ (r : Request) (g : Items) (k : Desk) (i v : ℕ) (u : Untouched k i) (u
       }
   still-untouched (Stored j) h =
       record {
-        read = u .read;
         shared = has-without (k .shared) j i ∙ rw (u .shared);
         written = with-other (k .written) j i (other j h) ∙ u .written;
       }
   still-untouched (Wait j) h = u
-  still-untouched (Committed n) h = record { read = has-none i; shared = has-none i; written = has-none i }
-  still-untouched Abandoned h = record { read = has-none i; shared = has-none i; written = has-none i }
-  still-untouched (Aborted w) h = record { read = has-none i; shared = has-none i; written = has-none i }
+  still-untouched (Committed n) h = record { shared = has-none i; written = has-none i }
+  still-untouched Abandoned h = record { shared = has-none i; written = has-none i }
+  still-untouched (Aborted w) h = record { shared = has-none i; written = has-none i }
 
 -- ---- two requests on a board
 

@@ -26,10 +26,9 @@ use Rattle.board.specs.declared.Board.{Board}
 use Rattle.board.proofs.Eldest.{eldest-picked, eldest-same}
 use Rattle.board.proofs.Granted.{low-item, checks-passed}
 
--- ---- a desk's record that has nothing to do with item i
+-- ---- a desk's record that has nothing to do with item i: what it has only read of open items, no other desk's request can see
 
 pub record Untouched (k : Desk) (i : ℕ) : Type 0 where
-  pub read : has (k .read) i ≡ false
   pub shared : has (k .shared) i ≡ false
   pub written : has (k .written) i ≡ false
 
@@ -37,7 +36,6 @@ pub untouched : (k : Desk) (i : ℕ) → touched k i ≡ false → Untouched k i
 untouched k i h =
     let two = or-left (has (k .read) i || has (k .shared) i) (has (k .written) i) h in
     record {
-      read = or-left (has (k .read) i) (has (k .shared) i) two;
       shared = or-right (has (k .read) i) (has (k .shared) i) two;
       written = or-right (has (k .read) i || has (k .shared) i) (has (k .written) i) h;
     }

@@ -21,7 +21,7 @@ use Rattle.board.specs.History.{RunReplays}
 use Rattle.board.specs.Demands.{next, reply, Apart}
 use Rattle.board.specs.declared.Board.{Board}
 use Rattle.board.proofs.Needed.{not-both}
-use Rattle.board.proofs.Example.{table, computing, begin, end, abandon}
+use Rattle.board.specs.Example.{table, computing, begin, end, abandon}
 
 abbrev itself : Board → Board
 itself b = b

@@ -3,3 +3,5 @@ pub mod Opening
 pub mod History
 pub mod Demands
 pub mod Reached
+pub mod Example
+pub mod Cases

@@ -2,7 +2,7 @@
 -- the board follows the answer, and decides nothing.
 use Prim.Native.Nat.{ℕ, zero, suc, _+_, _-_, _%_}
 use mathlib.Core.Bool.{Bool, true, false, cond, not, _&&_, _||_}
-use mathlib.Core.List.{List, [], _∷_}
+use mathlib.Core.List.{List, [], _∷_, _++_}
 use lib.ListN.{getD, set, replicate}
 use lib.Dec.{eqb, ltb, leb}
 use Rattle.items.specs.First.{first}
@@ -57,15 +57,15 @@ copyOf k i = getD (k .copies) i 0
 
 -- ---- refusals 4 to 9, in their order
 
+-- a read or a write with none open, or of an item above 63
+abbrev pub itemChecks : Desk → ℕ → List Check
+itemChecks k i = not (isOpen k) fails 5 ∷ ltb 63 i fails 6 ∷ []
+
 abbrev pub checks : Board → ℕ → Request → List Check
 checks b d Begin = isOpen (deskAt b d) fails 4 ∷ leb 2000 (b .age .0) fails 9 ∷ []
-checks b d (Read i) = not (isOpen (deskAt b d)) fails 5 ∷ ltb 63 i fails 6 ∷ []
+checks b d (Read i) = itemChecks (deskAt b d) i
 checks b d (Write i v) =
-    not (isOpen (deskAt b d)) fails 5
-    ∷ ltb 63 i fails 6
-    ∷ ltb v (getD (b .floors) i 0) fails 7
-    ∷ ltb (getD (b .ceilings) i 0) v fails 8
-    ∷ []
+    itemChecks (deskAt b d) i ++ (ltb v (getD (b .floors) i 0) fails 7 ∷ ltb (getD (b .ceilings) i 0) v fails 8 ∷ [])
 checks b d End = not (isOpen (deskAt b d)) fails 5 ∷ []
 checks b d Abandon = not (isOpen (deskAt b d)) fails 5 ∷ []
 

@@ -8,9 +8,10 @@ use wire::Decoded;
 use wire::Request;
 ghost use mathlib.Core.Path.{_≡_};
 ghost use Prim.Native.Nat.{_<_};
+ghost use Rattle.wire.specs.Checks.{firstFailing};
 ghost use Rattle.wire.specs.Requests.{deskOf};
 ghost use Rattle.wire.specs.declared.Request;
-ghost use Rattle.board.specs.Rules.{isOpen, seen, answered, answer};
+ghost use Rattle.board.specs.Rules.{isOpen, itemChecks, seen, answered, answer};
 ghost use Rattle.board.specs.Reached.{Counted};
 
 // A transaction is open: ages begin at 1.
@@ -48,17 +49,28 @@ fn seen(values: [u32; 64], k: Desk, i: usize) -> u32
     values[i]
 }
 
+// Checks 5 and 6, which a read and a write share: the number of the first that fails, 0 where none does.
+fn item_refusal(k: Desk, i: u8) -> u8
+    ensures { λ r. ⌜ r ≡ firstFailing (itemChecks k i) ⌝ }
+{
+    if !is_open(k) {
+        return 5;
+    }
+    if i > 63 {
+        return 6;
+    }
+    0
+}
+
 fn read(b: Board, d: usize, i: u8) -> Answer
     requires { ⌜ d < 16 ⌝ }
     ensures { λ r. ⌜ r ≡ answered b d (Request.Read i) ⌝ }
 {
     let desks = b.desks;
     let k = desks[d];
-    if !is_open(k) {
-        return Answer::Refused(5);
-    }
-    if i > 63 {
-        return Answer::Refused(6);
+    let refused = item_refusal(k, i);
+    if refused != 0 {
+        return Answer::Refused(refused);
     }
     let values = b.values;
     let value = seen(values, k, i as usize);
@@ -70,11 +82,9 @@ fn write(b: Board, d: usize, i: u8, v: u32) -> Answer
     ensures { λ r. ⌜ r ≡ answered b d (Request.Write i v) ⌝ }
 {
     let desks = b.desks;
-    if !is_open(desks[d]) {
-        return Answer::Refused(5);
-    }
-    if i > 63 {
-        return Answer::Refused(6);
+    let refused = item_refusal(desks[d], i);
+    if refused != 0 {
+        return Answer::Refused(refused);
     }
     let item = i as usize;
     let floors = b.floors;

@@ -115,7 +115,7 @@ pub fn follow(b: Board, asked: Decoded, answer: Answer) -> Board
             after.desks[d] = idle();
         }
         Answer::Aborted(_) => {
-            after.desks[d] = idle();
+            after.desks[d] = idle(); // no copy is left for the desk's next transaction
         }
     }
     after

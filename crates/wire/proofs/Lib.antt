@@ -1,4 +1,5 @@
--- Checks: lists of checks. Forms: a request's bytes. Rows: a row of the opening table. Records: an answer's bytes lose nothing.
+-- Checks: lists of checks. Forms: a request's bytes. Records: an answer's bytes. Rows: the opening table.
 pub mod Checks
 pub mod Forms
+pub mod Records
 pub mod Rows

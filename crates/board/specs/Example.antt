@@ -1,4 +1,4 @@
--- The outline's example, for what is to be computed: its table, the board that it opens, and requests.
+-- The outline's example: its table, and requests as bytes.
 use mathlib.Core.Path.{_≡_, refl}
 use mathlib.Core.Bool.{false}
 use mathlib.Core.List.{List, [], _∷_, _++_}

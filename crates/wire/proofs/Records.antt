@@ -1,0 +1,86 @@
+-- An answer's 12 bytes lose nothing that the outline fills: whoever reads them back has the desk byte and the answer again.
+use Prim.Native.Nat.{ℕ, _+_, _*_, _/_, _%_, _<_}
+use mathlib.Core.Path.{_≡_, refl, ap, ap₂, sym, _∙_}
+use mathlib.Core.Bool.{cond}
+use mathlib.Core.List.{List, [], _∷_}
+use native.Mathlib.Nat.{div-div-eq-div-mul, mod-eq-of-lt}
+use native.Mathlib.Omega.{arith}
+use lib.Dec.{eqb}
+use Rattle.wire.specs.Bytes.{byte, wordAt, fourBytes}
+use Rattle.wire.specs.Answers.{fields, encode}
+use Rattle.wire.specs.declared.Reason.{Reason}
+use Rattle.wire.specs.declared.Reason.the-variants.{Overwritten, TooOld, Yield}
+use Rattle.wire.specs.declared.Answer.{Answer}
+use Rattle.wire.specs.declared.Answer.the-variants.{Refused, Opened, Value, Stored, Wait, Committed, Abandoned, Aborted}
+
+-- the answer that code, item, reason, first and second number tell
+abbrev answerOf : ℕ → ℕ → ℕ → ℕ → ℕ → Answer
+answerOf code item reason first second =
+    cond (eqb code 0) (Refused reason)
+    (cond (eqb code 1) (Opened (record { 0 = first }) (record { 0 = second }))
+    (cond (eqb code 2) (Value item first)
+    (cond (eqb code 3) (Stored item)
+    (cond (eqb code 4) (Wait item)
+    (cond (eqb code 5) (Committed (record { 0 = first }))
+    (cond (eqb code 6) Abandoned
+    (Aborted
+    (cond (eqb reason 1) (Overwritten item (record { 0 = first }))
+    (cond (eqb reason 2) (TooOld (record { 0 = first })) (Yield item))))))))))
+
+abbrev fromFields : List ℕ → Answer
+fromFields f = answerOf (byte f 0) (byte f 1) (byte f 2) (byte f 3) (byte f 4)
+
+fields-tell : (a : Answer) → fromFields (fields a) ≡ a
+fields-tell (Refused n) = refl
+fields-tell (Opened a s) = refl
+fields-tell (Value i v) = refl
+fields-tell (Stored i) = refl
+fields-tell (Wait i) = refl
+fields-tell (Committed n) = refl
+fields-tell Abandoned = refl
+fields-tell (Aborted (Overwritten i n)) = refl
+fields-tell (Aborted (TooOld s)) = refl
+fields-tell (Aborted (Yield i)) = refl
+
+-- the first and the second number fit four bytes each: those of the hub are of the machine's 32 bits
+pub record Small (a : Answer) : Type 0 where
+  pub first : byte (fields a) 3 < 4294967296
+  pub second : byte (fields a) 4 < 4294967296
+
+split : (n : ℕ) → n ≡ n % 256 + 256 * (n / 256)
+split n = omega arith
+
+last-byte : (n : ℕ) → n < 4294967296 → n / 256 / 256 / 256 < 256
+last-byte n h = omega arith
+
+whole : (n r a s b t c u : ℕ) → n ≡ r + 256 * a → a ≡ s + 256 * b → b ≡ t + 256 * c → u ≡ c → r + 256 * s + 65536 * t + 16777216 * u ≡ n
+whole n r a s b t c u p q w x = omega arith
+
+four-tell : (n : ℕ) → n < 4294967296 → n % 256 + 256 * (n / 256 % 256) + 65536 * (n / 65536 % 256) + 16777216 * (n / 16777216 % 256) ≡ n
+four-tell n h =
+    let two : n / 65536 ≡ n / 256 / 256 = sym (div-div-eq-div-mul n 256 256) in
+    let three : n / 16777216 ≡ n / 256 / 256 / 256 = sym (div-div-eq-div-mul n 65536 256) ∙ ap (λ (m : ℕ). m / 256) two in
+    rw (two, three)
+    (whole n (n % 256) (n / 256) (n / 256 % 256) (n / 256 / 256) (n / 256 / 256 % 256) (n / 256 / 256 / 256) (n / 256 / 256 / 256 % 256)
+    (split n) (split (n / 256)) (split (n / 256 / 256)) (mod-eq-of-lt (last-byte n h)))
+
+-- what is read back of 12 bytes
+abbrev heard : List ℕ → Answer
+heard r = answerOf (byte r 0) (byte r 2) (byte r 3) (wordAt r 4) (wordAt r 8)
+
+pub encode-heard : (d : ℕ) (a : Answer) → Small a → heard (encode d a) ≡ a
+unfolding encode
+encode-heard d a s =
+    let f = fields a in
+    ap₂ (answerOf (byte f 0) (byte f 1) (byte f 2)) (four-tell (byte f 3) (s .first)) (four-tell (byte f 4) (s .second)) ∙ fields-tell a
+
+desk-byte : (d : ℕ) (a : Answer) → byte (encode d a) 1 ≡ d
+unfolding encode
+desk-byte d a = refl
+
+-- two answers with the same 12 bytes are one answer, to the same desk byte
+pub encode-tells : (d e : ℕ) (a b : Answer) → Small a → Small b → encode d a ≡ encode e b → (d ≡ e) × (a ≡ b)
+encode-tells d e a b s t same = (
+  sym (desk-byte d a) ∙ ap (λ (r : List ℕ). byte r 1) same ∙ desk-byte e b,
+  sym (encode-heard d a s) ∙ ap heard same ∙ encode-heard e b t,
+)
