@@ -1,6 +1,7 @@
 // The board after an answer.
 use crate::Board;
 use crate::Desk;
+use crate::idle;
 use counters::Age;
 use counters::Number;
 use items::Items;
@@ -12,17 +13,10 @@ ghost use mathlib.Core.Path.{_≡_};
 ghost use Prim.Native.Nat.{_<_};
 ghost use Rattle.wire.specs.Requests.{deskOf};
 ghost use Rattle.wire.specs.Answers.{itemOf};
-ghost use Rattle.board.specs.Rules.{idle, opened, reading, writing, copyOf, installed, follow};
-
-// A desk with nothing open.
-pub fn idle() -> Desk
-    ensures { λ r. ⌜ r ≡ idle ⌝ }
-{
-    opened(Age::ZERO, Number::ZERO)
-}
+ghost use Rattle.board.specs.Rules.{opened, reading, writing, copyOf, installed, follow};
 
 // A transaction just begun.
-fn opened(age: Age, start: Number) -> Desk
+pub fn opened(age: Age, start: Number) -> Desk
     ensures { λ r. ⌜ r ≡ opened age start ⌝ }
 {
     Desk {

@@ -1,6 +1,6 @@
 // Who holds a guarded item.
 use crate::Desk;
-use crate::following::idle;
+use crate::idle;
 use counters::Age;
 use items::Items;
 use wire::Answer;

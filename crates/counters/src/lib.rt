@@ -6,6 +6,7 @@ ghost use lib.Dec.{ltb};
 ghost use Rattle.counters.specs.Counters.{nextAge, nextNumber, laterNumber};
 
 // A transaction's age: the lower, the older.
+#[repr(C)]
 pub struct Age(pub u32);
 
 impl Age {
@@ -28,6 +29,7 @@ impl Age {
 }
 
 // A transaction's number, in the order of commits.
+#[repr(C)]
 pub struct Number(pub u32);
 
 impl Number {

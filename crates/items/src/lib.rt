@@ -4,6 +4,7 @@ ghost use Prim.Native.Nat.{_<_};
 ghost use Rattle.items.specs.Items.{has, with, without, common, joined, empty, lowest};
 
 // A set of the items 0 to 63: item i is in it where the bit i is set.
+#[repr(C)]
 pub struct Items(pub u64);
 
 impl Items {

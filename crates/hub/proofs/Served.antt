@@ -1,0 +1,68 @@
+-- One more request at the end of a run: the board, the answers' bytes, and that the request is 8 bytes.
+use mathlib.Core.Path.{_≡_, refl, ap, _∙_}
+use mathlib.Core.List.{List, [], _∷_, _++_, append-assoc, append-nil}
+use Prim.Native.Nat.{ℕ, zero, suc, _+_, _*_, _≤_, _<_}
+use native.Mathlib.Omega.{arith}
+use native.Mathlib.Numerals.{add-one}
+use lib.ListN.{length, take, drop, getD, length-append, length-take, length-drop}
+use lib.Seq.{getD-drop}
+use Rattle.runs.specs.Runs.{after}
+use Rattle.runs.proofs.Grown.{after-more}
+use Rattle.wire.specs.Bytes.{Bytes, byte}
+use Rattle.wire.specs.Answers.{encode}
+use Rattle.wire.specs.declared.Answer.{Answer}
+use Rattle.board.specs.Demands.{next, reply}
+use Rattle.board.specs.declared.Board.{Board}
+use Rattle.hub.specs.Hub.{requestsOf, twelveEach, served}
+
+served-snoc : (b : Board) (qs : List (List ℕ)) (q : List ℕ) → served b (qs ++ (q ∷ [])) ≡ served b qs ++ encode (byte q 1) (reply (after next b qs) q)
+unfolding twelveEach
+served-snoc b [] q = append-nil (encode (byte q 1) (reply b q))
+served-snoc b (p ∷ qs) q = rw (served-snoc (next b p) qs q, append-assoc)
+
+pub encode-length : (d : ℕ) (a : Answer) → length (encode d a) ≡ 12
+unfolding encode
+encode-length d a = refl
+
+served-length : (b : Board) (qs : List (List ℕ)) → length (served b qs) ≡ 12 * length qs
+unfolding twelveEach
+served-length b [] = refl
+served-length b (q ∷ qs) = rw length-append (omega (arith, encode-length (byte q 1) (reply b q), served-length (next b q) qs))
+
+pub requestsOf-length : (s : List ℕ) (k : ℕ) → length (requestsOf s k) ≡ k
+unfolding requestsOf
+requestsOf-length s zero = refl
+requestsOf-length s (suc k) = rw length-append (omega (arith, requestsOf-length s k))
+
+-- request k of a slice
+abbrev pub requestAt : List ℕ → ℕ → List ℕ
+requestAt s k = take 8 (drop (8 * k) s)
+
+module _ (b : Board) (s : List ℕ) (k : ℕ) where
+  pub next-board : after next b (requestsOf s (k + 1)) ≡ next (after next b (requestsOf s k)) (requestAt s k)
+  unfolding requestsOf
+  next-board = rw add-one (after-more next b (requestsOf s k) (requestAt s k))
+
+  pub next-answer : served b (requestsOf s (k + 1)) ≡ served b (requestsOf s k) ++ encode (byte (requestAt s k) 1) (reply (after next b (requestsOf s k)) (requestAt s k))
+  unfolding requestsOf
+  next-answer = rw add-one (served-snoc b (requestsOf s k) (requestAt s k))
+
+  pub answers-length : length (served b (requestsOf s k)) ≡ 12 * k
+  answers-length = served-length b (requestsOf s k) ∙ ap (λ (n : ℕ). 12 * n) (requestsOf-length s k)
+
+abbrev Small : List ℕ → Type 0
+Small s = (i : ℕ) → getD s i 0 < 256
+
+take-small : (n : ℕ) (s : List ℕ) → Small s → Small (take n s)
+take-small zero s h i = omega arith
+take-small (suc n) [] h i = omega arith
+take-small (suc n) (x ∷ s) h zero = h zero
+take-small (suc n) (x ∷ s) h (suc i) = take-small n s (λ j. h (suc j)) i
+
+-- a part of a slice of bytes is bytes
+pub part-bytes : (s : List ℕ) (at n : ℕ) → Small s → at + n ≤ length s → Bytes n (take n (drop at s))
+part-bytes s at n small h =
+    record {
+      long = simp (length-take, length-drop) (omega arith);
+      small = take-small n (drop at s) (λ i. rw getD-drop (small (at + i)));
+    }

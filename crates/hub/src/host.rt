@@ -1,0 +1,45 @@
+// What the exported calls over a host's board do, with the board by value.
+use crate::opening::opening;
+use board::Board;
+use board::step;
+use wire::answers::encode;
+use wire::table::wrong;
+ghost use mathlib.Core.Path.{_≡_};
+ghost use Rattle.board.specs.Reached.{Reached};
+ghost use Rattle.hub.specs.Hub.{openedBy, steppedBy};
+
+// The board, and the number that is returned.
+pub struct Opened {
+    pub board: Board,
+    pub code: i64,
+}
+
+// The board, and the answer's bytes.
+pub struct Told {
+    pub board: Board,
+    pub bytes: [u8; 12],
+}
+
+pub fn open(b: Board, table: &[u8]) -> Opened
+    ensures { λ r. ⌜ r ≡ openedBy b (now (table .entry)) ⌝ }
+{
+    if wrong(table) {
+        return Opened {
+            board: b,
+            code: -10,
+        };
+    }
+    let board = opening(table);
+    Opened { board, code: 0 }
+}
+
+pub fn tell(b: Board, request: [u8; 8]) -> Told
+    requires { ⌜ Reached b ⌝ }
+    ensures { λ r. ⌜ r ≡ steppedBy b request ⌝ }
+{
+    let s = step(b, request);
+    let board = s.board;
+    let answer = s.answer;
+    let bytes = encode(request[1], answer);
+    Told { board, bytes }
+}
