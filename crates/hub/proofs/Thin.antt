@@ -26,15 +26,15 @@ use denote.RattleType.{RattleType, owns}
 use denote.Laws.{Is, Tells, Lawful, Makes, shows}
 use denote.Memory.{mem, pointee}
 use denote.Ref.{RefT, MutRef, now, ptr-vals, mut-tells}
-use denote.Signature.{Signature, plain, mutRefTo}
-use denote.Steps.{only, opens, closes, owned, peeks, heard, nothing}
+use denote.Signature.{plain, mutRefTo}
+use denote.Steps.{opens, closes, owned, peeks, heard, nothing}
 use denote.Struct.Steps.{spelt}
 use denote.Triple.Entry.{onEntry}
 use denote.Triple.Spec.{Meets, tripleOf}
 use denote.Triple.Statement.{Contract, Triple}
 use denote.Triple.Call.{calls-at}
 use denote.Triple.Clauses.{Ended, Clauses, ensured, lasts, closing}
-use denote.Triple.Walked.{says, needs, Stays, stay-ref, stay-dropped, walkOf, goes-ref, goes-dropped, Walks, ends-at, walked, walk-meets}
+use denote.Triple.Walked.{says, needs, Stays, stay-ref, stay-dropped, walkOf, goes-ref, goes-dropped, ends-at, walked, walk-meets}
 use denote.Exit.{unchanged, yes}
 
 pub record Plainly : Type 2 where

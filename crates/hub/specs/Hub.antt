@@ -45,7 +45,7 @@ fourEach (v ∷ vs) = fourBytes v ++ fourEach vs
 pub data Outcome : Type 0 where
   told : ℤ → List ℕ → List ℕ → Outcome
 
--- refusals 10, 11, 14, 12, 13, in that order
+-- refusals 10, 11, 14, 12, 13, in that order, by the table and the lengths of the requests and of the two buffers
 abbrev pub runChecks : List ℕ → ℕ → ℕ → ℕ → List Check
 runChecks t q a v =
     wrong t fails 10
@@ -58,16 +58,16 @@ runChecks t q a v =
 unfoldable pub refusal : List ℕ → ℕ → ℕ → ℕ → ℕ
 refusal t q a v = firstFailing (runChecks t q a v)
 
--- requests handed over one at a time to board b: their answers in bytes, and the board at the end
+-- requests handed over one at a time to board b: the bytes of their answers
 abbrev pub served : Board → List (List ℕ) → List ℕ
 served b qs = twelveEach qs (answers next reply b qs)
 
--- the count of answers; each buffer keeps what it had beyond
+-- the count of answers, their bytes and the final values; each buffer keeps what it had beyond
 abbrev pub completed : Board → List (List ℕ) → List ℕ → List ℕ → Outcome
 completed b qs a v =
     told (pos (length qs)) (served b qs ++ drop (12 * length qs) a) (fourEach (after next b qs .values) ++ drop 256 v)
 
--- minus the number of the refusal, and nothing written
+-- where a check fails, minus the number of the refusal, and nothing written
 unfoldable pub outcome : List ℕ → List ℕ → List ℕ → List ℕ → Outcome
 outcome t q a v =
     let n = refusal t (length q) (length a) (length v) in

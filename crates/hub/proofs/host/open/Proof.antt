@@ -1,5 +1,5 @@
 -- By the test of the table.
-use mathlib.Core.Path.{_≡_, sym, _∙_}
+use mathlib.Core.Path.{sym, _∙_}
 use borrow.Author.Needs.{needs}
 use Rattle.wire.proofs.Rows.{right-long}
 use Rattle.hub.specs.Hub.{openedBy}

@@ -3,7 +3,7 @@ use borrow.Author.Needs.{needs}
 use mathlib.Core.Path.{_≡_, ap, _∙_}
 use Prim.Native.Nat.{ℕ, _+_, _-_}
 use native.Mathlib.Omega.{arith}
-use lib.ListN.{length, take, drop, replicate, length-take, length-drop}
+use lib.ListN.{take, drop, replicate, length-take, length-drop}
 use Rattle.hub.proofs.Buffers.{paste-all}
 use Rattle.hub.proofs.pieces.eight.Statement.{statement}
 use Rattle.hub.proofs.pieces.eight.Tie as tie

@@ -1,10 +1,10 @@
 -- The invariant: the first j bytes of the piece are in their places, and all else is as it was.
 use mathlib.Core.Path.{_≡_, refl}
-use Prim.Native.Nat.{_≤_, _-_, _+_}
+use Prim.Native.Nat.{_≤_, _-_}
 use native.Mathlib.Omega.{arith}
 use native.Mathlib.Numerals.{add-one}
-use lib.ListN.{length, length-set, set}
-use lib.Seq.{paste, paste-zero, paste-suc, length-paste}
+use lib.ListN.{length, length-set}
+use lib.Seq.{paste, paste-zero, paste-suc}
 use Rattle.hub.proofs.pieces.put.Statement.{statement}
 use Rattle.hub.proofs.pieces.put.Tie as tie
 

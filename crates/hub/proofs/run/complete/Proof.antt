@@ -1,5 +1,5 @@
 -- Nothing was refused, so the board can be reached and the buffers have room; each holds what `serve` and `put_values` leave.
-use Prim.Native.Nat.{ℕ, _*_, _/_}
+use Prim.Native.Nat.{_*_, _/_}
 use mathlib.Core.Path.{_≡_, ap, _∙_}
 use mathlib.Core.List.{_++_}
 use native.Mathlib.Omega.{arith}

@@ -1,5 +1,5 @@
 -- Each number by the tests that led to it.
-use mathlib.Core.Path.{_≡_, sym, _∙_}
+use mathlib.Core.Path.{sym, _∙_}
 use native.Mathlib.Omega.{arith}
 use borrow.Author.Needs.{needs}
 use Rattle.hub.proofs.Refusals.{refuses-10, refuses-11, refuses-14, refuses-12, refuses-13, refuses-none}
