@@ -2,9 +2,10 @@
 use crate::Board;
 use crate::Desk;
 use crate::locks::locked;
-use crate::validation::ended;
+use crate::validation::first_stale;
 use wire::Answer;
 use wire::Decoded;
+use wire::Reason;
 use wire::Request;
 ghost use mathlib.Core.Path.{_≡_};
 ghost use Prim.Native.Nat.{_<_};
@@ -98,6 +99,7 @@ fn write(b: Board, d: usize, i: u8, v: u32) -> Answer
     locked(desks, b.guarded, d, i, true, Answer::Stored(i))
 }
 
+// Commit, or abort as too old or overwritten. It is one function, since the compiler copies the desks once more for each one split off.
 fn end(b: Board, d: usize) -> Answer
     requires { ⌜ d < 16 ⌝ }
     requires { ⌜ Counted b ⌝ }
@@ -108,8 +110,24 @@ fn end(b: Board, d: usize) -> Answer
     if !is_open(k) {
         return Answer::Refused(5);
     }
+    let last = b.number;
+    let number = last.next();
+    if k.read.is_empty() {
+        return Answer::Committed(number);
+    }
+    let start = k.start;
+    if last.since(start) > 16 {
+        return Answer::Aborted(Reason::TooOld(start));
+    }
     let sets = b.sets;
-    ended(sets, b.number, k)
+    let stale = first_stale(sets, k.read, start, last);
+    if stale.0 > last.0 {
+        return Answer::Committed(number);
+    }
+    let set = sets[stale.place()];
+    let both = set.common(k.read);
+    let item = both.lowest() as u8;
+    Answer::Aborted(Reason::Overwritten(item, stale))
 }
 
 fn abandon(b: Board, d: usize) -> Answer

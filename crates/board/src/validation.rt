@@ -1,12 +1,9 @@
 // Validation at the end: what was read against the write sets of later numbers.
-use crate::Desk;
 use counters::Number;
 use items::Items;
-use wire::Answer;
-use wire::Reason;
 ghost use mathlib.Core.Path.{_≡_};
-ghost use Prim.Native.Nat.{_-_, _≤_, _<_};
-ghost use Rattle.board.specs.Rules.{shares, firstStale, ended};
+ghost use Prim.Native.Nat.{_≤_, _<_};
+ghost use Rattle.board.specs.Rules.{shares, firstStale};
 
 // The write set of number n shares an item with the open-read set.
 fn shares(sets: [Items; 16], read: Items, n: Number) -> bool
@@ -17,7 +14,7 @@ fn shares(sets: [Items; 16], read: Items, n: Number) -> bool
 }
 
 // The lowest number above the start whose write set shares an item with the open-read set; the one after the last where there is none.
-fn first_stale(sets: [Items; 16], read: Items, start: Number, last: Number) -> Number
+pub fn first_stale(sets: [Items; 16], read: Items, start: Number, last: Number) -> Number
     requires { ⌜ start .0 ≤ last .0 ⌝ }
     requires { ⌜ last .0 < 2000 ⌝ }
     ensures { λ r. ⌜ r .0 ≡ firstStale sets read (start .0) (last .0) ⌝ }
@@ -32,27 +29,4 @@ fn first_stale(sets: [Items; 16], read: Items, start: Number, last: Number) -> N
         k += 1;
     }
     start.later(span)
-}
-
-// Commit, or abort as too old or overwritten.
-pub fn ended(sets: [Items; 16], last: Number, k: Desk) -> Answer
-    requires { ⌜ k .start .0 ≤ last .0 ⌝ }
-    requires { ⌜ last .0 < 2000 ⌝ }
-    ensures { λ r. ⌜ r ≡ ended sets last k ⌝ }
-{
-    let read = k.read;
-    if read.is_empty() {
-        return Answer::Committed(last.next());
-    }
-    let start = k.start;
-    if last.since(start) > 16 {
-        return Answer::Aborted(Reason::TooOld(start));
-    }
-    let stale = first_stale(sets, read, start, last);
-    if stale.0 > last.0 {
-        return Answer::Committed(last.next());
-    }
-    let set = sets[stale.place()];
-    let item = set.common(read).lowest() as u8;
-    Answer::Aborted(Reason::Overwritten(item, stale))
 }
