@@ -1,11 +1,11 @@
--- One more request at the end of a run: the board, the answers' bytes, and that the request is 8 bytes.
+-- One more request at the end of a run: the board, the answers' bytes, and that the request is 8 bytes. And a run of one request.
 use mathlib.Core.Path.{_≡_, refl, ap, _∙_}
 use mathlib.Core.List.{List, [], _∷_, _++_, append-assoc, append-nil}
-use Prim.Native.Nat.{ℕ, zero, suc, _+_, _*_, _≤_, _<_}
+use Prim.Native.Nat.{ℕ, zero, suc, _+_, _*_, _/_, _≤_, _<_}
 use native.Mathlib.Omega.{arith}
 use native.Mathlib.Numerals.{add-one}
-use lib.ListN.{length, take, drop, getD, length-append, length-take, length-drop}
-use lib.Seq.{getD-drop}
+use lib.ListN.{length, take, drop, getD, length-append, length-take, length-drop, drop-of-length-le}
+use lib.Seq.{getD-drop, take-all}
 use Rattle.runs.specs.Runs.{after}
 use Rattle.runs.proofs.Grown.{after-more}
 use Rattle.wire.specs.Bytes.{Bytes, byte}
@@ -13,7 +13,7 @@ use Rattle.wire.specs.Answers.{encode}
 use Rattle.wire.specs.declared.Answer.{Answer}
 use Rattle.board.specs.Demands.{next, reply}
 use Rattle.board.specs.declared.Board.{Board}
-use Rattle.hub.specs.Hub.{requestsOf, twelveEach, served}
+use Rattle.hub.specs.Hub.{requestsOf, requestsIn, twelveEach, served}
 
 served-snoc : (b : Board) (qs : List (List ℕ)) (q : List ℕ) → served b (qs ++ (q ∷ [])) ≡ served b qs ++ encode (byte q 1) (reply (after next b qs) q)
 unfolding twelveEach
@@ -66,3 +66,19 @@ part-bytes s at n small h =
       long = simp (length-take, length-drop) (omega arith);
       small = take-small n (drop at s) (λ i. rw getD-drop (small (at + i)));
     }
+
+-- ---- a run of one request
+
+module _ (b : Board) (q : List ℕ) (eight : length q ≡ 8) where
+  one-request : requestsIn q ≡ q ∷ []
+  unfolding requestsOf
+  one-request = rw eight (ap (λ (l : List ℕ). l ∷ []) (take-all 8 q (omega arith)))
+
+  pub one-board : after next b (requestsIn q) ≡ next b q
+  one-board = ap (after next b) one-request
+
+  pub one-answer : (buffer : List ℕ) → length buffer ≡ 12 → served b (requestsIn q) ++ drop (12 * (length q / 8)) buffer ≡ encode (byte q 1) (reply b q)
+  unfolding twelveEach
+  one-answer buffer twelve =
+      ap (λ (qs : List (List ℕ)). served b qs ++ drop (12 * (length q / 8)) buffer) one-request
+      ∙ rw (eight, append-nil, drop-of-length-le buffer {i = 12} (omega arith), append-nil)

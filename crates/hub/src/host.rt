@@ -1,8 +1,7 @@
 // What the exported calls over a host's board do, with the board by value.
 use crate::opening::opening;
+use crate::run::serve;
 use board::Board;
-use board::step;
-use wire::answers::encode;
 use wire::table::wrong;
 ghost use mathlib.Core.Path.{_≡_};
 ghost use Rattle.board.specs.Reached.{Reached};
@@ -33,13 +32,12 @@ pub fn open(b: Board, table: &[u8]) -> Opened
     Opened { board, code: 0 }
 }
 
+// A run of one request: so that the one place where a request is served is the loop of a run.
 pub fn tell(b: Board, request: [u8; 8]) -> Told
     requires { ⌜ Reached b ⌝ }
     ensures { λ r. ⌜ r ≡ steppedBy b request ⌝ }
 {
-    let s = step(b, request);
-    let board = s.board;
-    let answer = s.answer;
-    let bytes = encode(request[1], answer);
+    let mut bytes = [0u8; 12];
+    let board = serve(b, &request, &mut bytes);
     Told { board, bytes }
 }

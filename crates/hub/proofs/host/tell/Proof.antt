@@ -1,21 +1,29 @@
--- The parts of what `step` and `encode` return.
+-- A run of one request leaves the board and the bytes of that request.
+use mathlib.Core.Path.{refl, _∙_}
+use lib.ListN.{replicate}
 use borrow.Author.Needs.{needs}
 use Rattle.hub.specs.Hub.{steppedBy}
+use Rattle.hub.proofs.Served.{one-board, one-answer}
 use Rattle.hub.proofs.host.tell.Statement.{statement}
 use Rattle.hub.proofs.host.tell.Tie as tie
 
-step-requires : tie.Need-step-requires
-step-requires c κs = search needs
+slice-aggregate-serve : tie.Need-slice-aggregate-serve
+slice-aggregate-serve c = search needs
 
-array-read-encode : tie.Need-array-read-encode
-array-read-encode c = search needs
+slice-aggregate-serve-2 : tie.Need-slice-aggregate-serve-2
+slice-aggregate-serve-2 c = search needs
 
-encode-requires : tie.Need-encode-requires
-encode-requires c κs = search needs
+serve-requires : tie.Need-serve-requires
+serve-requires c κs = search needs
 
 returns : tie.Need-returns
 unfolding steppedBy
-returns c = rw (c .encode .ensures, c .before .before .step .ensures)
+returns c =
+    let a = c .before .before .before .before .args in
+    let board = c .before .serve .ensures .0 ∙ one-board (a .b) (a .t2) (search needs) in
+    let bytes = c .before .serve .ensures .1 ∙ one-answer (a .b) (a .t2) (search needs) (replicate 12 0) refl in
+    λ i. record { board = board i; bytes = bytes i }
 
 pub tell-spec : {M : Type 1} → statement M
-tell-spec = tie.close (tie.spec step-requires array-read-encode encode-requires returns)
+tell-spec =
+    tie.close (tie.spec slice-aggregate-serve slice-aggregate-serve-2 serve-requires returns)
