@@ -15,14 +15,6 @@ module _ (p : ℕ → Bool) (age : ℕ → ℕ) where
   abbrev taken : ℕ → ℕ → Bool
   taken n e = p n && (eqb e 16 || ltb (age n) (age e))
 
-  pub eldest-start : eldest p age zero ≡ 16
-  unfolding eldest
-  eldest-start = refl
-
-  pub eldest-next : (n : ℕ) → eldest p age (suc n) ≡ cond (taken n (eldest p age n)) n (eldest p age n)
-  unfolding eldest
-  eldest-next n = refl
-
   -- the desk found is one that the test picks
   pub eldest-picked : (n : ℕ) → eqb (eldest p age n) 16 ≡ false → p (eldest p age n) ≡ true
   unfolding eldest
