@@ -7,7 +7,7 @@ use native.Mathlib.Nat.{le-refl}
 use native.Mathlib.Omega.{arith}
 use borrow.Author.Tests.{eqb-true, leb-false, ltb-true, ltb-false, ne-eqb, not-false}
 use lib.Dec.{T, eqb, ltb}
-use Rattle.items.specs.Items.{has, empty}
+use Rattle.items.specs.Items.{has}
 use Rattle.items.proofs.Tests.{by-cond, clash, or-left}
 use Rattle.items.proofs.Laws.{empty-has, common-none}
 use Rattle.counters.specs.Counters.{nextAge}
@@ -25,6 +25,7 @@ use Rattle.board.specs.Rules.{deskAt, isOpen, isGuarded, checks, refusal
 use Rattle.board.specs.declared.Desk.{Desk}
 use Rattle.board.specs.declared.Board.{Board}
 use Rattle.board.proofs.Eldest.{eldest-none}
+use Rattle.board.proofs.Ways.{locked-ways, ended-ways}
 use Rattle.board.proofs.Stale.{stale-before}
 
 -- desk k holds item i, alone or shared
@@ -67,7 +68,7 @@ Granted b d (Refused n) = Unit {0}
 Granted b d (Opened a s) = MayBegin b d a s
 Granted b d (Value i v) = MayRead b d i v
 Granted b d (Stored i) = MayWrite b d i
-Granted b d (Wait i) = i < 64
+Granted b d (Wait i e) = i < 64
 Granted b d (Committed n) = MayCommit b d (n .0)
 Granted b d Abandoned = Open b d
 Granted b d (Aborted w) = Open b d
@@ -86,8 +87,7 @@ module _ (b : Board) (d i : ℕ) (w : Bool) where
   locked-granted : Open b d → i < 64 → (a : Answer) → (found ≡ 16 → Granted b d a) → Granted b d (locked (b .desks) (b .guarded) d i w a)
   unfolding found
   locked-granted o l a f =
-      by-cond (Granted b d) (eqb found 16) (λ e. f (eqb-true found 16 e))
-      (λ e. by-cond (Granted b d) (ltb (deskAt b d .age .0) (deskAt b found .age .0)) (λ e. l) (λ e. o))
+      locked-ways (Granted b d) (b .desks) (b .guarded) d i w a (λ e. f (eqb-true found 16 e)) (λ held older. l) (λ held younger. o)
 
 -- ---- the end
 
@@ -97,23 +97,20 @@ still-kept n s m y l = omega arith
 -- a desk that has read no open item, or no write set above its start shares an item with what it has read
 ended-granted : (b : Board) (d : ℕ) → Open b d → Granted b d (ended (b .sets) (b .number) (deskAt b d))
 ended-granted b d o =
-    by-cond (Granted b d) (empty (k .read))
-    (λ e. record { busy = o; next = refl; current = λ i m low r l h. clash r (empty-has (k .read) e i low) })
-    (λ e.
-    by-cond (Granted b d) (ltb 16 (n - s)) (λ e. o)
-    (λ young.
-    by-cond (Granted b d) (ltb n (firstStale (b .sets) (k .read) s n))
-    (λ none.
+    ended-ways (Granted b d) (b .sets) (b .number) (deskAt b d)
+    (λ unread. record { busy = o; next = refl; current = λ i m low r l h. clash r (empty-has (k .read) unread i low) })
+    o
+    (λ recent fresh.
     record {
       busy = o;
       next = refl;
       current =
           λ i m low r l h. (
-            still-kept n s m (ltb-false 16 (n - s) young) l,
-            common-none (writeSet (b .sets) m) (k .read) (not-false _ (stale-before (b .sets) (k .read) s n m l (earlier m h none))) i low r,
+            still-kept n s m (ltb-false 16 (n - s) recent) l,
+            common-none (writeSet (b .sets) m) (k .read) (not-false _ (stale-before (b .sets) (k .read) s n m l (earlier m h fresh))) i low r,
           );
     })
-    (λ e. o)))
+    o
   where
     k : Desk
     k = deskAt b d
@@ -129,7 +126,7 @@ ended-granted b d o =
 
 -- ---- all answers
 
-is-open : (k : Desk) → not (isOpen k) ≡ false → isOpen k ≡ true
+pub is-open : (k : Desk) → not (isOpen k) ≡ false → isOpen k ≡ true
 is-open k e = not-false (isOpen k) e
 
 pub low-item : (i : ℕ) → ltb 63 i ≡ false → i < 64

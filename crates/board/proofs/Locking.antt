@@ -1,6 +1,6 @@
 -- Locks as the code has them. It looks for a holder among the other desks: the desks with the asker's own put to idle. That finds the holder of the rules.
-use mathlib.Core.Path.{_≡_, refl, ap, sym, _∙_}
-use mathlib.Core.Bool.{Bool, true, false, not, _&&_, and-false}
+use mathlib.Core.Path.{_≡_, refl, ap}
+use mathlib.Core.Bool.{Bool, true, false, and-false}
 use mathlib.Core.List.{List}
 use Prim.Native.Nat.{ℕ, _≤_, _<_}
 use native.Mathlib.Nat.{le-refl, le-antisymm, lt-irrefl}
@@ -19,7 +19,7 @@ use Rattle.board.specs.Rules.{idle, beyond, deskIn, conflicts, inTheWay,
 use Rattle.board.specs.declared.Desk.{Desk}
 use Rattle.board.proofs.Eldest.{eldest-le, eldest-same, eldest-out}
 
-idle-clear : (i : ℕ) (w : Bool) → conflicts idle i w ≡ false
+pub idle-clear : (i : ℕ) (w : Bool) → conflicts idle i w ≡ false
 idle-clear i w = rw (has-none i) (and-false w)
 
 module _ (desks : List Desk) (guarded : Items) (d i : ℕ) (w : Bool) (low : d < length desks) (kind : has guarded i ≡ true) where
@@ -71,8 +71,8 @@ module _ (desks : List Desk) (guarded : Items) (d i : ℕ) (w : Bool) (granted :
       other : eqb e 16 ≡ false
       other = ne-eqb e 16 (λ q. lt-irrefl 16 (rw q at some))
 
-      pub locked-wait : ltb (deskIn desks d .age .0) (deskIn desks e .age .0) ≡ true → Wait i ≡ locked desks guarded d i w granted
+      pub locked-wait : ltb (deskIn desks d .age .0) (deskIn desks e .age .0) ≡ true → Wait i e ≡ locked desks guarded d i w granted
       locked-wait t = rw (← found, other, t)
 
-      pub locked-yield : ltb (deskIn desks d .age .0) (deskIn desks e .age .0) ≡ false → Aborted (Yield i) ≡ locked desks guarded d i w granted
+      pub locked-yield : ltb (deskIn desks d .age .0) (deskIn desks e .age .0) ≡ false → Aborted (Yield i e) ≡ locked desks guarded d i w granted
       locked-yield f = rw (← found, other, f)

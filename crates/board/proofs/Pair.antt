@@ -44,7 +44,7 @@ module _ (r : Request) (g : Items) (k : Desk) (i v : ℕ) (u : Untouched k i) (u
         shared = has-without (k .shared) j i ∙ rw (u .shared);
         written = with-other (k .written) j i (other j h) ∙ u .written;
       }
-  still-untouched (Wait j) h = u
+  still-untouched (Wait j e) h = u
   still-untouched (Committed n) h = record { shared = has-none i; written = has-none i }
   still-untouched Abandoned h = record { shared = has-none i; written = has-none i }
   still-untouched (Aborted w) h = record { shared = has-none i; written = has-none i }

@@ -37,7 +37,7 @@ module _ {values : List ℕ} {b : Board} {h : History} (inv : Inv values b h) wh
       reseated inv (follow-sound (inv .sound) q hd (Value i v) may) (step-read (inv .sound) (inv .accounts) (deskOf q) hd i v may)
   follow-keeps q hd (Stored i) may =
       reseated inv (follow-sound (inv .sound) q hd (Stored i) may) (step-write (inv .sound) (inv .accounts) (deskOf q) hd i (valueOf q) may)
-  follow-keeps q hd (Wait i) may = inv
+  follow-keeps q hd (Wait i e) may = inv
   follow-keeps q hd (Committed n) may = step-commit inv (deskOf q) hd n may (follow-sound (inv .sound) q hd (Committed n) may)
   follow-keeps q hd Abandoned may =
       reseated inv (follow-sound (inv .sound) q hd Abandoned may) (step-blank (inv .sound) (inv .accounts) (deskOf q) hd idle idle-blank)

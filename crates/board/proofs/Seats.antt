@@ -13,6 +13,7 @@ use Rattle.items.proofs.Tests.{by-equal}
 use Rattle.board.specs.Rules.{beyond, deskIn, isOpen}
 use Rattle.board.specs.declared.Desk.{Desk}
 use Rattle.board.proofs.Desks.{DeskSound, Excludes, Locks, locks-set}
+use Rattle.board.proofs.Ages.{AgesApart}
 
 -- ---- how many desks are open
 
@@ -41,6 +42,7 @@ pub record DesksSound (guarded : Items) (number age : ℕ) (desks : List Desk) :
   pub each : (d : ℕ) → d < 16 → DeskSound guarded number (deskIn desks d)
   pub locks : Locks guarded desks
   pub counted : number + openIn desks ≤ age
+  pub ages : AgesApart age desks
 
 -- one desk's record changes, and the counters may
 pub seated :
@@ -49,8 +51,9 @@ pub seated :
     → ((e : ℕ) → e < 16 → e ≢ d → Excludes guarded k (deskIn desks e) × Excludes guarded (deskIn desks e) k)
     → number ≤ number′
     → number′ + tally k + age ≤ number + tally (deskIn desks d) + age′
+    → AgesApart age′ (set desks d k)
     → DesksSound guarded number′ age′ (set desks d k)
-seated {guarded} {number} {number′} {desks} ds d hd k ok apart later room =
+seated {guarded} {number} {number′} {desks} ds d hd k ok apart later room ages =
     record {
       sixteen = length-set desks d k ∙ ds .sixteen;
       each =
@@ -59,6 +62,7 @@ seated {guarded} {number} {number′} {desks} ds d hd k ok apart later room =
           (λ n. rw (getD-set-other desks d e k beyond n) (kept e (ds .each e he)));
       locks = locks-set guarded desks (ds .locks) d k long apart;
       counted = let e = openIn-set desks d k long in omega (arith, ds .counted);
+      ages = ages;
     }
   where
     long : d < length desks

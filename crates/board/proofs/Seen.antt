@@ -110,7 +110,7 @@ module _ (b c : Board) (d i : ℕ) (w : Bool) (a : AlikeAt b c i) where
   locked-same : deskAt b d ≡ deskAt c d → {x y : Answer} → x ≡ y → locked (b .desks) (b .guarded) d i w x ≡ locked (c .desks) (c .guarded) d i w y
   locked-same own {x} {y} e =
       cond-same (eqb (found b) 16) (λ none. e)
-      (λ some. ap₂ (λ (m n : ℕ). cond (ltb m n) (Wait i) (Aborted (Yield i))) (ap (λ (k : Desk). k .age .0) own) (found-age some))
+      (λ some. ap₂ (λ (m n : ℕ). cond (ltb m n) (Wait i (found b)) (Aborted (Yield i (found b)))) (ap (λ (k : Desk). k .age .0) own) (found-age some))
       ∙ ap (lockedBy (c .desks) d i y) found-same
 
 -- ---- the answer

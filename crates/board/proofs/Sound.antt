@@ -24,6 +24,7 @@ use Rattle.board.proofs.Filled.{filled-length}
 use Rattle.board.proofs.Granted.{Granted, MayBegin, MayRead, MayWrite, MayCommit, answer-granted}
 use Rattle.board.proofs.Bounds.{desk-low}
 use Rattle.board.proofs.Desks.{DeskSound, idle-blank, opened-blank, blank-excludes, blank-sound, reading-sound, reading-excludes, writing-sound, writing-excludes, excludes-writing}
+use Rattle.board.proofs.Ages.{ages-kept, ages-freed, ages-begun, ages-none}
 use Rattle.board.proofs.Seats.{tally, DesksSound, seated}
 
 pub record Sound (b : Board) : Type 0 where
@@ -44,6 +45,9 @@ module _ {b : Board} (sound : Sound b) (d : ℕ) (hd : d < 16) where
   unfolding k
   ok = sound .desks .each d hd
 
+  long : d < length (b .desks)
+  long = rw (sound .desks .sixteen) hd
+
   -- one desk's record changes, and nothing else
   put-sound : (m : Desk) → DesksSound (b .guarded) (b .number .0) (b .age .0) (set (b .desks) d m) → Sound (put b d m)
   put-sound m ds =
@@ -56,7 +60,7 @@ module _ {b : Board} (sound : Sound b) (d : ℕ) (hd : d < 16) where
       → DesksSound (b .guarded) number′ (b .age .0) (set (b .desks) d idle)
   freed later room =
       seated (sound .desks) d hd idle (blank-sound idle-blank zero-le (λ f. refl))
-      (λ e he n. blank-excludes idle-blank (b .guarded) (deskAt b e)) later (omega arith)
+      (λ e he n. blank-excludes idle-blank (b .guarded) (deskAt b e)) later (omega arith) (ages-freed (sound .desks .ages) d long idle refl)
 
   put-idle : Sound (put b d idle)
   put-idle = put-sound idle (freed (le-refl (b .number .0)) (omega arith))
@@ -72,7 +76,8 @@ module _ {b : Board} (sound : Sound b) (d : ℕ) (hd : d < 16) where
         desks =
             seated (sound .desks) d hd (opened a s)
             (blank-sound (opened-blank a s) (rw (may .start) (le-refl (b .number .0))) (λ f. clash (rw (ne-eqb (a .0) 0 (λ z. omega (arith, given))) refl) f))
-            (λ e he n. blank-excludes (opened-blank a s) (b .guarded) (deskAt b e)) (le-refl (b .number .0)) (rw (may .closed) fits);
+            (λ e he n. blank-excludes (opened-blank a s) (b .guarded) (deskAt b e)) (le-refl (b .number .0)) (rw (may .closed) fits)
+            (ages-begun (sound .desks .ages) d long (opened a s) (omega (arith, given)));
       }
     where
       given : a .0 ≡ b .age .0 + 1
@@ -90,7 +95,8 @@ module _ {b : Board} (sound : Sound b) (d : ℕ) (hd : d < 16) where
         sound .desks .locks d e hd he (λ q. n (sym q)),
         reading-excludes (b .guarded) k i (deskAt b e) (may .lock e he n) (sound .desks .locks e d he hd n),
       ))
-      (le-refl (b .number .0)) (le-refl (b .number .0 + tally k + b .age .0)))
+      (le-refl (b .number .0)) (le-refl (b .number .0 + tally k + b .age .0))
+      (ages-kept (sound .desks .ages) d long (reading k i (isGuarded b i)) refl))
 
   sound-write : (i v : ℕ) → MayWrite b d i → Sound (put b d (writing (deskAt b d) i v))
   unfolding k
@@ -101,7 +107,8 @@ module _ {b : Board} (sound : Sound b) (d : ℕ) (hd : d < 16) where
         writing-excludes (b .guarded) k i v (deskAt b e) (may .lock e he n) (sound .desks .locks d e hd he (λ q. n (sym q))),
         excludes-writing (b .guarded) k i v (deskAt b e) (may .lock e he n) (sound .desks .locks e d he hd n),
       ))
-      (le-refl (b .number .0)) (le-refl (b .number .0 + tally k + b .age .0)))
+      (le-refl (b .number .0)) (le-refl (b .number .0 + tally k + b .age .0))
+      (ages-kept (sound .desks .ages) d long (writing k i v) refl))
 
   sound-commit : (n : Number) → MayCommit b d (n .0) → Sound (committed b d n)
   unfolding k
@@ -122,7 +129,7 @@ follow-sound sound q hd (Refused n) may = sound
 follow-sound sound q hd (Opened a s) may = sound-begun sound (deskOf q) hd a s may
 follow-sound sound q hd (Value i v) may = sound-read sound (deskOf q) hd i v may
 follow-sound sound q hd (Stored i) may = sound-write sound (deskOf q) hd i (valueOf q) may
-follow-sound sound q hd (Wait i) may = sound
+follow-sound sound q hd (Wait i e) may = sound
 follow-sound sound q hd (Committed n) may = sound-commit sound (deskOf q) hd n may
 follow-sound sound q hd Abandoned may = put-idle sound (deskOf q) hd
 follow-sound sound q hd (Aborted w) may = put-idle sound (deskOf q) hd
@@ -150,5 +157,6 @@ opening-sound t =
                 λ d e hd he n.
                 rw (getD-replicate 16 d idle beyond hd) (blank-excludes idle-blank (opening t .guarded) (deskIn (replicate 16 idle) e) .0);
             counted = zero-le;
+            ages = ages-none 16;
           };
     }

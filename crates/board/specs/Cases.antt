@@ -9,7 +9,7 @@ use Rattle.wire.specs.Answers.{fields}
 use Rattle.board.specs.Rules.{idle, deskAt}
 use Rattle.board.specs.Opening.{opening}
 use Rattle.board.specs.Demands.{next, reply}
-use Rattle.board.specs.Example.{table, computing, begin, read, write, end, abandon}
+use Rattle.board.specs.Example.{table, computing, begin, read, write, end}
 
 pub record Case : Type 0 where
   pub requests : List (List ℕ)
@@ -35,14 +35,16 @@ cases =
     ∷ (begin 0 ∷ read 0 0 ∷ commits 16 ++ (end 0 ∷ []) gives 5 ∷ 0 ∷ 0 ∷ 17 ∷ 0 ∷ [])
     ∷ (begin 0 ∷ read 0 0 ∷ commits 17 ++ (end 0 ∷ []) gives 7 ∷ 0 ∷ 2 ∷ 0 ∷ 0 ∷ [])
     ∷ (begin 0 ∷ read 0 1 ∷ commits 17 ++ (end 0 ∷ []) gives 5 ∷ 0 ∷ 0 ∷ 18 ∷ 0 ∷ [])
-    -- P8 to P11: the older waits, the younger yields, also to one of two; the sole sharer may write
-    ∷ (begin 0 ∷ begin 1 ∷ read 1 1 ∷ write 0 1 1 ∷ [] gives 4 ∷ 1 ∷ 0 ∷ 0 ∷ 0 ∷ [])
-    ∷ (begin 0 ∷ begin 1 ∷ read 0 1 ∷ write 1 1 1 ∷ [] gives 7 ∷ 1 ∷ 3 ∷ 0 ∷ 0 ∷ [])
-    ∷ (begin 0 ∷ begin 1 ∷ begin 2 ∷ read 0 1 ∷ read 2 1 ∷ write 1 1 1 ∷ [] gives 7 ∷ 1 ∷ 3 ∷ 0 ∷ 0 ∷ [])
+    -- P8 to P11: the older waits for desk 1, the younger yields to it, also to the older of two, desk 2; the sole sharer may write
+    ∷ (begin 0 ∷ begin 1 ∷ read 1 1 ∷ write 0 1 1 ∷ [] gives 4 ∷ 1 ∷ 0 ∷ 1 ∷ 0 ∷ [])
+    ∷ (begin 1 ∷ begin 0 ∷ read 1 1 ∷ write 0 1 1 ∷ [] gives 7 ∷ 1 ∷ 3 ∷ 1 ∷ 0 ∷ [])
+    ∷ (begin 2 ∷ begin 0 ∷ begin 1 ∷ read 2 1 ∷ read 1 1 ∷ write 0 1 1 ∷ [] gives 7 ∷ 1 ∷ 3 ∷ 2 ∷ 0 ∷ [])
     ∷ (begin 0 ∷ read 0 1 ∷ write 0 1 1 ∷ [] gives 3 ∷ 1 ∷ 0 ∷ 0 ∷ 0 ∷ [])
     -- P12, P13: a copy is read back by its own desk, and by no other
     ∷ (begin 0 ∷ write 0 0 115 ∷ read 0 0 ∷ [] gives 2 ∷ 0 ∷ 0 ∷ 115 ∷ 0 ∷ [])
     ∷ (begin 0 ∷ begin 1 ∷ write 0 0 115 ∷ read 1 0 ∷ [] gives 2 ∷ 0 ∷ 0 ∷ 140 ∷ 0 ∷ [])
+    -- of two younger holders the older one is waited for, desk 2
+    ∷ (begin 0 ∷ begin 2 ∷ begin 1 ∷ read 1 1 ∷ read 2 1 ∷ write 0 1 1 ∷ [] gives 4 ∷ 1 ∷ 0 ∷ 2 ∷ 0 ∷ [])
     -- easy errors: a commit between the last read and the end is seen, also one that wrote without reading
     ∷ (begin 0 ∷ begin 1 ∷ read 0 0 ∷ write 1 0 115 ∷ end 1 ∷ end 0 ∷ [] gives 7 ∷ 0 ∷ 1 ∷ 1 ∷ 0 ∷ [])
     -- a guarded value that was read under its lock is not validated against a commit before the lock

@@ -30,7 +30,7 @@ told h q (Refused n) = h
 told h q (Opened a s) = logged h (deskOf q) []
 told h q (Value i v) = logged h (deskOf q) (got i v ∷ logOf h (deskOf q))
 told h q (Stored i) = logged h (deskOf q) (put i (valueOf q) ∷ logOf h (deskOf q))
-told h q (Wait i) = h
+told h q (Wait i e) = h
 told h q (Committed n) =
     record { logs = set (h .logs) (deskOf q) []; done = record { number = n .0; ops = logOf h (deskOf q) } ∷ h .done }
 told h q Abandoned = logged h (deskOf q) []

@@ -93,11 +93,12 @@ eldest p age (suc n) =
 abbrev pub holder : List Desk → Items → ℕ → ℕ → Bool → ℕ
 holder desks guarded d i w = eldest (inTheWay desks guarded d i w) (λ e. deskIn desks e .age .0) 16
 
--- with desk e the oldest holder: granted where there is none; wait if this transaction is older than e, and so than each; else yield
+-- with desk e the oldest holder: granted where there is none; wait if this transaction is older than e, and so than each; else yield.
+-- A wait and a yield name desk e
 abbrev pub lockedBy : List Desk → ℕ → ℕ → Answer → ℕ → Answer
 lockedBy desks d i granted e =
     cond (eqb e 16) granted
-    (cond (ltb (deskIn desks d .age .0) (deskIn desks e .age .0)) (Wait i) (Aborted (Yield i)))
+    (cond (ltb (deskIn desks d .age .0) (deskIn desks e .age .0)) (Wait i e) (Aborted (Yield i e)))
 
 abbrev pub locked : List Desk → Items → ℕ → ℕ → Bool → Answer → Answer
 locked desks guarded d i w granted = lockedBy desks d i granted (holder desks guarded d i w)
@@ -217,7 +218,7 @@ follow b q (Refused n) = b
 follow b q (Opened a s) = begun b (deskOf q) a s
 follow b q (Value i v) = put b (deskOf q) (reading (deskAt b (deskOf q)) i (isGuarded b i))
 follow b q (Stored i) = put b (deskOf q) (writing (deskAt b (deskOf q)) i (valueOf q))
-follow b q (Wait i) = b
+follow b q (Wait i e) = b
 follow b q (Committed n) = committed b (deskOf q) n
 follow b q Abandoned = put b (deskOf q) idle
 follow b q (Aborted w) = put b (deskOf q) idle

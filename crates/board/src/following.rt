@@ -94,7 +94,7 @@ pub fn follow(b: Board, asked: Decoded, answer: Answer) -> Board
         Answer::Stored(i) => {
             after.desks[d] = writing(after.desks[d], i as usize, value_of(asked));
         }
-        Answer::Wait(_) => {}
+        Answer::Wait(_, _) => {}
         Answer::Committed(number) => {
             let k = after.desks[d];
             let old = after.values;

@@ -64,7 +64,7 @@ fn holder(desks: [Desk; 16], guarded: Items, d: usize, i: usize, w: bool) -> usi
     found.desk
 }
 
-// What is granted, or wait, or yield.
+// What is granted, or wait, or yield: these name the oldest holder.
 pub fn locked(
     desks: [Desk; 16],
     guarded: Items,
@@ -87,8 +87,9 @@ pub fn locked(
     }
     let own = desks[d];
     let other = desks[e];
+    let named = e as u8;
     if own.age.below(other.age) {
-        return Answer::Wait(i);
+        return Answer::Wait(i, named);
     }
-    Answer::Aborted(Reason::Yield(i))
+    Answer::Aborted(Reason::Yield(i, named))
 }

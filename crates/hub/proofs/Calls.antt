@@ -13,7 +13,7 @@ use Rattle.wire.specs.Table.{wrong}
 use Rattle.wire.proofs.Rows.{right-long}
 use Rattle.board.specs.Demands.{next}
 use Rattle.board.specs.Opening.{opening}
-use Rattle.board.specs.Reached.{Eights, Reached}
+use Rattle.board.specs.Reached.{Eights}
 use Rattle.board.specs.declared.Board.{Board}
 use Rattle.board.proofs.Reached.{reached-opening, reached-step}
 use Rattle.hub.specs.Hub.{requestsOf, requestsIn, twelveEach, served, completed, openedBy, steppedBy}

@@ -2,7 +2,7 @@
 -- Only `same-items` and `empty-zero` ask that a set is a word of 64 digits: no other law does.
 use mathlib.Core.Path.{_≡_, refl, ap, _∙_, sym}
 use mathlib.Core.Logic.{_≢_}
-use mathlib.Core.Bool.{Bool, true, false, _&&_, _||_, not, or-true, or-false, and-true, and-false, true≢false, false≢true}
+use mathlib.Core.Bool.{Bool, true, false, _&&_, _||_, not, or-true, or-false, and-true, and-false, true≢false}
 use Prim.Native.Nat.{ℕ, _^_, _≤_, _<_}
 use borrow.Author.Tests.{eq-eqb, ne-eqb, not-true, not-false}
 use lib.Bits.{and-lt, or-lt, xor-lt}

@@ -1,5 +1,5 @@
 -- The 8 bytes of a request, check by check: the first that fails gives its number, and where none does a desk asks.
-use mathlib.Core.Path.{_≡_, refl}
+use mathlib.Core.Path.{_≡_}
 use mathlib.Core.Bool.{Bool, true, false, _||_}
 use mathlib.Core.List.{List}
 use Prim.Native.Nat.{ℕ, _≤_, _<_, suc-le-suc}

@@ -2,13 +2,12 @@
 use Prim.Native.Nat.{ℕ, _+_, _*_, _/_, _%_, _<_}
 use mathlib.Core.Path.{_≡_, refl, ap, ap₂, sym, _∙_}
 use mathlib.Core.Bool.{cond}
-use mathlib.Core.List.{List, [], _∷_}
+use mathlib.Core.List.{List}
 use native.Mathlib.Nat.{div-div-eq-div-mul, mod-eq-of-lt}
 use native.Mathlib.Omega.{arith}
 use lib.Dec.{eqb}
-use Rattle.wire.specs.Bytes.{byte, wordAt, fourBytes}
+use Rattle.wire.specs.Bytes.{byte, wordAt}
 use Rattle.wire.specs.Answers.{fields, encode}
-use Rattle.wire.specs.declared.Reason.{Reason}
 use Rattle.wire.specs.declared.Reason.the-variants.{Overwritten, TooOld, Yield}
 use Rattle.wire.specs.declared.Answer.{Answer}
 use Rattle.wire.specs.declared.Answer.the-variants.{Refused, Opened, Value, Stored, Wait, Committed, Abandoned, Aborted}
@@ -20,12 +19,12 @@ answerOf code item reason first second =
     (cond (eqb code 1) (Opened (record { 0 = first }) (record { 0 = second }))
     (cond (eqb code 2) (Value item first)
     (cond (eqb code 3) (Stored item)
-    (cond (eqb code 4) (Wait item)
+    (cond (eqb code 4) (Wait item first)
     (cond (eqb code 5) (Committed (record { 0 = first }))
     (cond (eqb code 6) Abandoned
     (Aborted
     (cond (eqb reason 1) (Overwritten item (record { 0 = first }))
-    (cond (eqb reason 2) (TooOld (record { 0 = first })) (Yield item))))))))))
+    (cond (eqb reason 2) (TooOld (record { 0 = first })) (Yield item first))))))))))
 
 abbrev fromFields : List ℕ → Answer
 fromFields f = answerOf (byte f 0) (byte f 1) (byte f 2) (byte f 3) (byte f 4)
@@ -35,12 +34,12 @@ fields-tell (Refused n) = refl
 fields-tell (Opened a s) = refl
 fields-tell (Value i v) = refl
 fields-tell (Stored i) = refl
-fields-tell (Wait i) = refl
+fields-tell (Wait i e) = refl
 fields-tell (Committed n) = refl
 fields-tell Abandoned = refl
 fields-tell (Aborted (Overwritten i n)) = refl
 fields-tell (Aborted (TooOld s)) = refl
-fields-tell (Aborted (Yield i)) = refl
+fields-tell (Aborted (Yield i e)) = refl
 
 -- the first and the second number fit four bytes each: those of the hub are of the machine's 32 bits
 pub record Small (a : Answer) : Type 0 where

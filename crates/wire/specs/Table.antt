@@ -1,6 +1,6 @@
 -- Outline, "A whole run": the opening table is 64 records of 16 bytes: floor, ceiling and value, kind (0 open, 1 guarded), three zero bytes.
 use Prim.Native.Nat.{ℕ, _+_, _*_}
-use mathlib.Core.Bool.{Bool, not, _&&_, _||_}
+use mathlib.Core.Bool.{Bool, not, _&&_}
 use mathlib.Core.List.{List}
 use lib.Dec.{eqb, leb}
 use lib.ListN.{length}

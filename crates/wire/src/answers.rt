@@ -32,13 +32,13 @@ pub fn encode(desk: u8, a: Answer) -> [u8; 12]
         Answer::Opened(age, start) => record(1, desk, 0, 0, age.0, start.0),
         Answer::Value(item, value) => record(2, desk, item, 0, value, 0),
         Answer::Stored(item) => record(3, desk, item, 0, 0, 0),
-        Answer::Wait(item) => record(4, desk, item, 0, 0, 0),
+        Answer::Wait(item, holder) => record(4, desk, item, 0, holder as u32, 0),
         Answer::Committed(number) => record(5, desk, 0, 0, number.0, 0),
         Answer::Abandoned => record(6, desk, 0, 0, 0, 0),
         Answer::Aborted(why) => match why {
             Reason::Overwritten(item, number) => record(7, desk, item, 1, number.0, 0),
             Reason::TooOld(start) => record(7, desk, 0, 2, start.0, 0),
-            Reason::Yield(item) => record(7, desk, item, 3, 0, 0),
+            Reason::Yield(item, holder) => record(7, desk, item, 3, holder as u32, 0),
         },
     }
 }

@@ -22,19 +22,20 @@ pub enum Decoded {
     Malformed(u8),
 }
 
-// Why a transaction is aborted, each with its own numbers.
+// Why a transaction is aborted, each with its own numbers. A yield tells the item and the desk that holds it.
 pub enum Reason {
     Overwritten(u8, Number),
     TooOld(Number),
-    Yield(u8),
+    Yield(u8, u8),
 }
 
+// A wait tells the item and the desk that holds it.
 pub enum Answer {
     Refused(u8),
     Opened(Age, Number),
     Value(u8, u32),
     Stored(u8),
-    Wait(u8),
+    Wait(u8, u8),
     Committed(Number),
     Abandoned,
     Aborted(Reason),

@@ -1,5 +1,4 @@
 -- By the two tests.
-use mathlib.Core.Path.{sym, _∙_}
 use borrow.Author.Tests.{le-ltb, lt-ltb, not-true, not-false}
 use borrow.Author.Needs.{needs}
 use Rattle.board.proofs.answering.item_refusal.Statement.{statement}

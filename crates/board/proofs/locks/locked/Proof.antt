@@ -35,6 +35,9 @@ mul-other c = search needs
 array-copy-out-other : tie.Need-array-copy-out-other
 array-copy-out-other c = search needs
 
+cast-named : tie.Need-cast-named
+cast-named c = search needs
+
 below-requires : tie.Need-below-requires
 below-requires c κs = search needs
 
@@ -62,6 +65,7 @@ locked-spec =
     array-copy-out-own
     mul-other
     array-copy-out-other
+    cast-named
     below-requires
     returns-3
     returns-4)

@@ -33,6 +33,9 @@ record-requires-4 c κs = search needs
 enum-known-a-5 : tie.Need-enum-known-a-5
 enum-known-a-5 c = search needs
 
+cast-record : tie.Need-cast-record
+cast-record c = search needs
+
 record-requires-5 : tie.Need-record-requires-5
 record-requires-5 c κs = search needs
 
@@ -65,6 +68,9 @@ record-requires-9 c κs = search needs
 
 enum-known-why-3 : tie.Need-enum-known-why-3
 enum-known-why-3 c = search needs
+
+cast-record-2 : tie.Need-cast-record-2
+cast-record-2 c = search needs
 
 record-requires-10 : tie.Need-record-requires-10
 record-requires-10 c κs = search needs
@@ -122,6 +128,7 @@ encode-spec =
     enum-known-a-4
     record-requires-4
     enum-known-a-5
+    cast-record
     record-requires-5
     enum-known-a-6
     record-requires-6
@@ -133,6 +140,7 @@ encode-spec =
     enum-known-why-2
     record-requires-9
     enum-known-why-3
+    cast-record-2
     record-requires-10
     returns
     returns-2
