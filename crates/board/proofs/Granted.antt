@@ -1,4 +1,4 @@
--- What an answer tells of the board that gave it. Only this file, Due and Seen look into how answers are decided.
+-- What an answer tells of the board that gave it. Only this file, Ways, Due, Named and Seen look into how answers are decided.
 use mathlib.Core.Path.{_≡_, refl}
 use mathlib.Core.Logic.{_≢_}
 use mathlib.Core.Bool.{Bool, true, false, not, _||_}
