@@ -51,8 +51,8 @@ fn read(board: &mut Board, desk: usize, item: u8) -> Answer {
             if !board.desks[desk].written.has(place) {
                 match ask(board, desk, place, false) {
                     Lock::Granted => board.desks[desk].shared.join(place),
-                    Lock::Wait => return Answer::Wait { item },
-                    Lock::Yield => return give_way(board, desk, item),
+                    Lock::Wait { holder } => return Answer::Wait { item, holder },
+                    Lock::Yield { holder } => return give_way(board, desk, item, holder),
                 }
             }
         }
@@ -71,8 +71,8 @@ fn write(board: &mut Board, desk: usize, item: u8, value: u32) -> Answer {
     if board.items[place].kind == Kind::Guarded {
         match ask(board, desk, place, true) {
             Lock::Granted => board.desks[desk].shared.leave(place),
-            Lock::Wait => return Answer::Wait { item },
-            Lock::Yield => return give_way(board, desk, item),
+            Lock::Wait { holder } => return Answer::Wait { item, holder },
+            Lock::Yield { holder } => return give_way(board, desk, item, holder),
         }
     }
     let own = &mut board.desks[desk];
@@ -81,7 +81,7 @@ fn write(board: &mut Board, desk: usize, item: u8, value: u32) -> Answer {
     Answer::Stored { item }
 }
 
-fn give_way(board: &mut Board, desk: usize, item: u8) -> Answer {
+fn give_way(board: &mut Board, desk: usize, item: u8, holder: usize) -> Answer {
     board.desks[desk].free();
-    Answer::Yield { item }
+    Answer::Yield { item, holder }
 }

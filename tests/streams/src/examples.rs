@@ -1,7 +1,8 @@
 //! The outline's own cases, all on its table: the worked example, P1 to P13,
-//! no requests, and the easy errors.
+//! no requests, the easy errors, and whom a desk waits for or yields to.
 
 use crate::errors::{copies, easy_errors};
+use crate::holders::holders;
 use crate::{begin, end, read, write};
 
 /// Desk, code, item, reason, first, second: a printed line.
@@ -21,6 +22,7 @@ pub fn examples() -> Vec<Example> {
     all.extend(limits());
     all.extend(ages_of_reads());
     all.extend(locks());
+    all.extend(holders());
     all.extend(copies());
     all.extend(easy_errors());
     all
@@ -152,12 +154,12 @@ fn locks() -> Vec<Example> {
         example(
             "P8 the older waits",
             shared_by_1(0, 1),
-            &[[0, 4, 1, 0, 0, 0]],
+            &[[0, 4, 1, 0, 1, 0]],
         ),
         example(
             "P9 the younger yields",
             shared_by_1(1, 0),
-            &[[0, 7, 1, 3, 0, 0]],
+            &[[0, 7, 1, 3, 1, 0]],
         ),
         example(
             "P10 ages 1 and 3 hold, 2 yields",
@@ -174,7 +176,7 @@ fn locks() -> Vec<Example> {
         example(
             "an older reader waits",
             written_younger,
-            &[[0, 4, 1, 0, 0, 0]],
+            &[[0, 4, 1, 0, 1, 0]],
         ),
     ]
 }
