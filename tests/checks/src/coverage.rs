@@ -1,6 +1,6 @@
-//! How often each code, abort reason and refusal came.
+//! How often each code, abort reason and refusal came, and whom answers named.
 
-use crate::Outcome;
+use crate::{named_holder, Outcome};
 
 #[derive(Clone, Copy, Default, Debug)]
 pub struct Coverage {
@@ -11,6 +11,8 @@ pub struct Coverage {
     pub reasons: [u64; 4],
     /// Refusals 1 to 14; place 0 stays empty.
     pub refusals: [u64; 15],
+    /// The desks waited for or yielded to.
+    pub holders: [u64; 16],
 }
 
 impl Coverage {
@@ -27,6 +29,9 @@ impl Coverage {
                 7 => self.reasons[answer[3] as usize] += 1,
                 _ => {}
             }
+            if let Some(holder) = named_holder(answer) {
+                self.holders[holder] += 1;
+            }
         }
     }
 
@@ -37,6 +42,7 @@ impl Coverage {
             (&mut self.codes[..], &other.codes[..]),
             (&mut self.reasons[..], &other.reasons[..]),
             (&mut self.refusals[..], &other.refusals[..]),
+            (&mut self.holders[..], &other.holders[..]),
         ];
         for (sums, more) in pairs {
             sums.iter_mut()
@@ -45,7 +51,8 @@ impl Coverage {
         }
     }
 
-    /// Everything the outline can answer came at least so often.
+    /// Everything the outline can answer came at least so often, and every
+    /// desk was named.
     pub fn assert_each(&self, often: u64) {
         let enough = |counts: &[u64]| counts.iter().all(|&count| count >= often);
         assert!(enough(&self.codes), "codes {:?}", self.codes);
@@ -55,5 +62,6 @@ impl Coverage {
             self.reasons
         );
         assert!(enough(&self.refusals[1..]), "refusals {:?}", self.refusals);
+        assert!(enough(&self.holders), "desks named {:?}", self.holders);
     }
 }

@@ -27,12 +27,12 @@ pub fn answer_in_words(record: &[u8]) -> String {
         (1, _) => format!("opened, age {first}, start {second}"),
         (2, _) => format!("value {first} of item {item}"),
         (3, _) => format!("stored item {item}"),
-        (4, _) => format!("wait for item {item}"),
+        (4, _) => format!("wait for desk {first}, which holds item {item}"),
         (5, _) => format!("committed as {first}"),
         (6, _) => "abandoned".to_string(),
         (7, 1) => format!("aborted, item {item} overwritten by {first}"),
         (7, 2) => format!("aborted, start {first} too old"),
-        (7, 3) => format!("aborted, yields for item {item}"),
+        (7, 3) => format!("aborted, yields to desk {first}, which holds item {item}"),
         _ => "no answer of the outline".to_string(),
     };
     format!("{words} {record:?}")

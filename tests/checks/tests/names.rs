@@ -1,8 +1,8 @@
 //! Desks are told apart by their ages alone: if all desks change names, the
-//! answers change their desk byte and nothing else, and once all desks are
+//! answers change the desks they name and nothing else, and once all desks are
 //! free the board doesn't tell who did what.
 
-use checks::{each, library_run, rerun};
+use checks::{each, library_run, named_holder, rerun};
 use streams::{Case, Random};
 
 /// A new name for each desk; bytes that name no desk stay.
@@ -22,6 +22,16 @@ fn renamed(case: &Case, names: &[u8]) -> Case {
     renamed
 }
 
+/// The answer with the new name of its desk, and of the holder if it names one.
+fn renamed_answer(answer: &[u8], names: &[u8]) -> Vec<u8> {
+    let mut renamed = answer.to_vec();
+    renamed[1] = names[answer[1] as usize];
+    if named_holder(answer).is_some() {
+        renamed[4] = names[answer[4] as usize];
+    }
+    renamed
+}
+
 fn check(case: &Case) -> Result<(), String> {
     let names = new_names(&mut Random::new(case.seed ^ 0x4A3E));
     let other = renamed(case, &names);
@@ -31,8 +41,7 @@ fn check(case: &Case) -> Result<(), String> {
     }
     let pairs = run.answers.chunks(12).zip(other_run.answers.chunks(12));
     for (place, (answer, other)) in pairs.enumerate() {
-        let same = answer[0] == other[0] && answer[2..] == other[2..];
-        if !same || names[answer[1] as usize] != other[1] {
+        if renamed_answer(answer, &names) != other {
             return Err(format!("new names change answer {place}"));
         }
     }
