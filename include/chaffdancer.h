@@ -11,8 +11,9 @@
  *     another, after this one began, has committed a write to it, the end is
  *     answered "aborted, overwritten".
  *   - Guarded items are locked: read by many or written by one. A desk that
- *     meets a lock is told to wait if all who hold it began later, else it is
- *     aborted and must yield. There is no queue: who waits asks again.
+ *     meets a lock is told to wait if all others who hold it began later, else
+ *     it is aborted and must yield. It is told for whom: of these others, for
+ *     the one that began first. There is no queue: who waits asks again.
  *
  * There are two doors. hub_run serves a whole list of requests on a fresh
  * board and supposes nothing of what it is lent. hub_open and hub_step serve
@@ -70,14 +71,21 @@
  *     1 opened      first: the age; second: the start number
  *     2 value       item; first: its value
  *     3 stored      item
- *     4 wait        item; ask again later, the transaction stays open
+ *     4 wait        item; first: the desk waited for; ask again later, the
+ *                   transaction stays open
  *     5 committed   first: the transaction's number
  *     6 abandoned   the transaction is gone, nothing else changed
  *     7 aborted     the transaction is gone, begin again; reason:
  *       1 overwritten   item; first: number of the commit that wrote it
  *       2 too old       first: the start number; it has read open items, and
  *                       more than 16 commits came after its start
- *       3 yield         item; one that began earlier holds it
+ *       3 yield         item; first: the desk yielded to
+ *
+ *   Wait and yield name a desk that holds the item: for a read, the other desk
+ *   that has written it; for a write, of all others that have read or written
+ *   it, the one that began first. That one began after the desk that is told
+ *   to wait, and before the desk that must yield. It is always named: in these
+ *   two answers a first number of 0 is desk 0.
  *
  *   The opening table is 64 rows, that of item 0 first: 1,024 bytes. It is
  *   right if in each row floor <= value <= ceiling, the kind is 0 or 1 and the
