@@ -90,7 +90,8 @@ static void tell_abort(const struct chaffdancer_answer *answer)
         printf("aborted, too old: more than 16 commits since its start at %lu\n", first);
         break;
     default:
-        printf("aborted, must yield: a desk that began earlier holds item %lu\n", item);
+        printf("aborted, must yield to desk %lu, which holds item %lu and began earlier\n", first,
+               item);
         break;
     }
 }
@@ -113,7 +114,8 @@ static void tell_answer(const struct script *script, const uint8_t *request,
         printf("stored, unseen by others until the desk commits\n");
         break;
     case CHAFFDANCER_ANSWER_WAIT:
-        printf("wait and ask again: a desk that began later holds item %lu\n", item);
+        printf("wait and ask again: it waits for desk %lu, which holds item %lu and began later\n",
+               first, item);
         break;
     case CHAFFDANCER_ANSWER_COMMITTED:
         printf("committed as number %lu\n", first);
