@@ -1,7 +1,7 @@
 -- What holds of each desk's record, and of the locks of two: a desk just freed or begun, a read and a write keep it. No board is in it.
 use mathlib.Core.Path.{_≡_, refl, sym, _∙_}
 use mathlib.Core.Logic.{_≢_}
-use mathlib.Core.Bool.{true, false, not, _&&_}
+use mathlib.Core.Bool.{Bool, true, false, not, _&&_, _||_}
 use mathlib.Core.List.{List}
 use Prim.Native.Nat.{ℕ, zero, suc, _<_, _≤_}
 use lib.ListN.{getD, set, length, length-set, replicate}
@@ -12,9 +12,13 @@ use Rattle.items.proofs.Tests.{by-cond, by-equal, clash, or-left, or-right, or-
 use Rattle.items.proofs.Laws.{has-none, with-same, with-other, with-less, without-other}
 use Rattle.counters.specs.declared.Age.{Age}
 use Rattle.counters.specs.declared.Number.{Number}
-use Rattle.board.specs.Rules.{idle, opened, beyond, deskIn, isOpen, copyOf, reading, writing}
-use Rattle.board.specs.declared.Desk.{Desk}
-use Rattle.board.proofs.Granted.{holds}
+use Rattle.desks.specs.Desks.{idle, opened, beyond, deskIn}
+use Rattle.board.specs.Rules.{isOpen, copyOf, reading, writing}
+use Rattle.desks.specs.declared.Desk.{Desk}
+
+-- desk k holds item i, alone or shared
+abbrev pub holds : Desk → ℕ → Bool
+holds k i = has (k .written) i || has (k .shared) i
 
 -- of one desk, where these items are guarded and this is the last number
 pub record DeskSound (guarded : Items) (number : ℕ) (k : Desk) : Type 0 where

@@ -1,7 +1,7 @@
 -- What an answer tells of the board that gave it. Only this file, Ways, Due, Named and Seen look into how answers are decided.
 use mathlib.Core.Path.{_≡_, refl}
 use mathlib.Core.Logic.{_≢_}
-use mathlib.Core.Bool.{Bool, true, false, not, _||_}
+use mathlib.Core.Bool.{Bool, true, false, not}
 use Prim.Native.Nat.{ℕ, _+_, _-_, _<_, _≤_, suc-le-suc}
 use native.Mathlib.Nat.{le-refl}
 use native.Mathlib.Omega.{arith}
@@ -21,16 +21,15 @@ use Rattle.wire.specs.declared.Decoded.the-variants.{Asked, Malformed}
 use Rattle.wire.specs.declared.Answer.{Answer}
 use Rattle.wire.specs.declared.Answer.the-variants.{Refused, Opened, Value, Stored, Wait, Committed, Abandoned, Aborted}
 use Rattle.wire.proofs.Checks.{Passed, numbered, all-passed}
-use Rattle.board.specs.Rules.{deskAt, isOpen, isGuarded, checks, refusal, conflicts, inTheWay, holder, locked, writeSet, firstStale, ended, seen, granted, answered, answer}
-use Rattle.board.specs.declared.Desk.{Desk}
+use Rattle.desks.specs.Desks.{conflicts, inTheWay, holder, locked}
+use Rattle.board.specs.Rules.{isOpen, seen, deskAt, isGuarded, checks, refusal, writeSet, firstStale, ended, granted, answered, answer}
+use Rattle.desks.specs.declared.Desk.{Desk}
 use Rattle.board.specs.declared.Board.{Board}
-use Rattle.board.proofs.Eldest.{eldest-none}
-use Rattle.board.proofs.Ways.{locked-ways, ended-ways}
+use Rattle.board.proofs.Desks.{holds}
+use Rattle.desks.proofs.Eldest.{eldest-none}
+use Rattle.desks.proofs.Locking.{locked-ways}
+use Rattle.board.proofs.Validated.{ended-ways}
 use Rattle.board.proofs.Stale.{stale-before}
-
--- desk k holds item i, alone or shared
-abbrev pub holds : Desk → ℕ → Bool
-holds k i = has (k .written) i || has (k .shared) i
 
 abbrev pub Open : Board → ℕ → Type 0
 Open b d = isOpen (deskAt b d) ≡ true

@@ -6,11 +6,10 @@ use Prim.Native.Nat.{ℕ}
 use native.Mathlib.Omega.{arith}
 use Rattle.runs.specs.Runs.{after}
 use Rattle.runs.proofs.Grown.{after-more, after-keeps}
-use Rattle.wire.specs.Bytes.{Bytes}
+use Rattle.words.specs.Bytes.{Bytes}
 use Rattle.wire.specs.Table.{wrong}
-use Rattle.board.specs.Rules.{step}
+use Rattle.board.specs.Rules.{step, next}
 use Rattle.board.specs.Opening.{opening}
-use Rattle.board.specs.Demands.{next}
 use Rattle.board.specs.Reached.{Eights, Reached, Counted}
 use Rattle.board.specs.declared.Board.{Board}
 use Rattle.board.proofs.Seats.{openIn-some}

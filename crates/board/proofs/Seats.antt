@@ -10,10 +10,11 @@ use lib.ListN.{set, length, length-set}
 use lib.Seq.{getD-set-same, getD-set-other}
 use Rattle.items.specs.declared.Items.{Items}
 use Rattle.items.proofs.Tests.{by-equal}
-use Rattle.board.specs.Rules.{beyond, deskIn, isOpen}
-use Rattle.board.specs.declared.Desk.{Desk}
+use Rattle.desks.specs.Desks.{beyond, deskIn}
+use Rattle.board.specs.Rules.{isOpen}
+use Rattle.desks.specs.declared.Desk.{Desk}
 use Rattle.board.proofs.Desks.{DeskSound, Excludes, Locks, locks-set}
-use Rattle.board.proofs.Ages.{AgesApart}
+use Rattle.desks.proofs.Ages.{AgesApart}
 
 -- ---- how many desks are open
 

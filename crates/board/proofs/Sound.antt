@@ -16,15 +16,16 @@ use Rattle.wire.specs.Requests.{decode, deskOf, valueOf}
 use Rattle.wire.specs.declared.Decoded.{Decoded}
 use Rattle.wire.specs.declared.Answer.{Answer}
 use Rattle.wire.specs.declared.Answer.the-variants.{Refused, Opened, Value, Stored, Wait, Committed, Abandoned, Aborted}
-use Rattle.board.specs.Rules.{idle, opened, beyond, deskIn, deskAt, isOpen, isGuarded, copyOf, put, begun, reading, writing, committed, answer, follow, step}
+use Rattle.desks.specs.Desks.{idle, opened, beyond, deskIn}
+use Rattle.board.specs.Rules.{isOpen, copyOf, reading, writing, deskAt, isGuarded, put, begun, committed, answer, follow, step}
 use Rattle.board.specs.Opening.{opening}
-use Rattle.board.specs.declared.Desk.{Desk}
+use Rattle.desks.specs.declared.Desk.{Desk}
 use Rattle.board.specs.declared.Board.{Board}
 use Rattle.board.proofs.Filled.{filled-length}
 use Rattle.board.proofs.Granted.{Granted, MayBegin, MayRead, MayWrite, MayCommit, answer-granted}
 use Rattle.board.proofs.Bounds.{desk-low}
 use Rattle.board.proofs.Desks.{DeskSound, idle-blank, opened-blank, blank-excludes, blank-sound, reading-sound, reading-excludes, writing-sound, writing-excludes, excludes-writing}
-use Rattle.board.proofs.Ages.{ages-kept, ages-freed, ages-begun, ages-none}
+use Rattle.desks.proofs.Ages.{ages-kept, ages-freed, ages-begun, ages-none}
 use Rattle.board.proofs.Seats.{tally, DesksSound, seated}
 
 pub record Sound (b : Board) : Type 0 where

@@ -4,15 +4,18 @@ use mathlib.Core.Bool.{Bool, true, false}
 use mathlib.Core.List.{List}
 use Prim.Native.Nat.{ℕ, _+_, _-_, _≤_, _<_}
 use borrow.Author.Tests.{le-ltb, lt-ltb}
+use lib.Dec.{ltb}
 use Rattle.items.specs.First.{first}
 use Rattle.items.specs.Items.{empty, common, lowest}
 use Rattle.items.specs.declared.Items.{Items}
+use Rattle.items.proofs.Tests.{by-cond}
 use Rattle.counters.specs.Counters.{nextNumber, laterNumber}
 use Rattle.counters.specs.declared.Number.{Number}
 use Rattle.wire.specs.declared.Reason.the-variants.{Overwritten, TooOld}
+use Rattle.wire.specs.declared.Answer.{Answer}
 use Rattle.wire.specs.declared.Answer.the-variants.{Committed, Aborted}
 use Rattle.board.specs.Rules.{writeSet, shares, firstStale, ended}
-use Rattle.board.specs.declared.Desk.{Desk}
+use Rattle.desks.specs.declared.Desk.{Desk}
 
 module _ (sets : List Items) (read : Items) (start last : Number) where
   -- the number found after k others
@@ -40,3 +43,21 @@ module _ (sets : List Items) (n : Number) (k : Desk) where
 
       pub ended-stale : stale .0 ≤ n .0 → Aborted (Overwritten (lowest (common (writeSet sets (stale .0)) (k .read))) stale) ≡ ended sets n k
       ended-stale h = rw (read, le-ltb 16 (n .0 - k .start .0) recent, ← found, le-ltb (n .0) (stale .0) h)
+
+-- what holds at each way out holds of the answer
+module _ (P : Answer → Type 0) where
+  module _ (sets : List Items) (n : Number) (k : Desk) where
+    -- the first number that shares an item with what was read, the one after the last where there is none
+    abbrev stale : ℕ
+    stale = firstStale sets (k .read) (k .start .0) (n .0)
+
+    pub ended-ways :
+        (empty (k .read) ≡ true → P (Committed (nextNumber n)))
+        → P (Aborted (TooOld (k .start)))
+        → (ltb 16 (n .0 - k .start .0) ≡ false → ltb (n .0) stale ≡ true → P (Committed (nextNumber n)))
+        → P (Aborted (Overwritten (lowest (common (writeSet sets stale) (k .read))) (record { 0 = stale })))
+        → P (ended sets n k)
+    ended-ways unread old fresh overwritten =
+        by-cond P (empty (k .read)) unread
+        (λ some. by-cond P (ltb 16 (n .0 - k .start .0)) (λ late. old)
+        (λ recent. by-cond P (ltb (n .0) stale) (fresh recent) (λ lost. overwritten)))

@@ -1,8 +1,3 @@
 pub mod Rules
 pub mod Opening
-pub mod History
-pub mod Demands
-pub mod Waiting
 pub mod Reached
-pub mod Example
-pub mod Cases

@@ -8,7 +8,8 @@ use Rattle.items.specs.Items.{none, with}
 use Rattle.items.specs.declared.Items.{Items}
 use Rattle.counters.specs.Counters.{noAge, noNumber}
 use Rattle.wire.specs.Table.{floorAt, ceilingAt, valueAt, kindAt}
-use Rattle.board.specs.Rules.{idle, filled}
+use Rattle.desks.specs.Desks.{idle}
+use Rattle.board.specs.Rules.{filled}
 use Rattle.board.specs.declared.Board.{Board}
 
 -- a number for each of the 64 items

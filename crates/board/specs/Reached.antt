@@ -4,11 +4,10 @@ use mathlib.Core.Path.{_≡_}
 use mathlib.Core.Bool.{true, false}
 use mathlib.Core.List.{List, [], _∷_}
 use Rattle.runs.specs.Runs.{after}
-use Rattle.wire.specs.Bytes.{Bytes}
+use Rattle.words.specs.Bytes.{Bytes}
 use Rattle.wire.specs.Table.{wrong}
-use Rattle.board.specs.Rules.{deskAt, isOpen}
+use Rattle.board.specs.Rules.{isOpen, deskAt, next}
 use Rattle.board.specs.Opening.{opening}
-use Rattle.board.specs.Demands.{next}
 use Rattle.board.specs.declared.Board.{Board}
 
 -- each is 8 bytes

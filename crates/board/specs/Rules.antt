@@ -1,14 +1,14 @@
 -- The outline's rules: what is answered to a request, and the board after it. The answer comes first, and changes nothing;
 -- the board follows the answer, and decides nothing.
 use Prim.Native.Nat.{ℕ, zero, suc, _+_, _-_, _%_}
-use mathlib.Core.Bool.{Bool, true, false, cond, not, _&&_, _||_}
+use mathlib.Core.Bool.{Bool, true, false, cond, not, _&&_}
 use mathlib.Core.List.{List, [], _∷_, _++_}
-use lib.ListN.{getD, set, replicate}
+use lib.ListN.{getD, set}
 use lib.Dec.{eqb, ltb, leb}
 use Rattle.items.specs.First.{first}
 use Rattle.items.specs.Items.{none, has, with, without, common, empty, lowest}
 use Rattle.items.specs.declared.Items.{Items}
-use Rattle.counters.specs.Counters.{noAge, noNumber, nextAge, nextNumber}
+use Rattle.counters.specs.Counters.{nextAge, nextNumber}
 use Rattle.counters.specs.declared.Age.{Age}
 use Rattle.counters.specs.declared.Number.{Number}
 use Rattle.wire.specs.Checks.{Check, _fails_, firstFailing}
@@ -17,29 +17,15 @@ use Rattle.wire.specs.declared.Request.{Request}
 use Rattle.wire.specs.declared.Request.the-variants.{Begin, Read, Write, End, Abandon}
 use Rattle.wire.specs.declared.Decoded.{Decoded}
 use Rattle.wire.specs.declared.Decoded.the-variants.{Asked, Malformed}
-use Rattle.wire.specs.declared.Reason.the-variants.{Overwritten, TooOld, Yield}
+use Rattle.wire.specs.declared.Reason.the-variants.{Overwritten, TooOld}
 use Rattle.wire.specs.declared.Answer.{Answer}
 use Rattle.wire.specs.declared.Answer.the-variants.{Refused, Opened, Value, Stored, Wait, Committed, Abandoned, Aborted}
-use Rattle.board.specs.declared.Desk.{Desk}
+use Rattle.desks.specs.Desks.{idle, opened, deskIn, eldest, locked}
+use Rattle.desks.specs.declared.Desk.{Desk}
 use Rattle.board.specs.declared.Board.{Board}
 use Rattle.board.specs.declared.Stepped.{Stepped}
 
--- ---- records of a desk
-
--- a desk with nothing open: all of it at zero or empty
-abbrev pub idle : Desk
-idle = record { age = noAge; start = noNumber; read = none; shared = none; written = none; copies = replicate 64 0 }
-
--- a transaction just begun
-abbrev pub opened : Age → Number → Desk
-opened a s = record { age = a; start = s; read = none; shared = none; written = none; copies = replicate 64 0 }
-
--- a desk's record; past the sixteenth there is none, not even room for copies
-abbrev pub beyond : Desk
-beyond = record { age = noAge; start = noNumber; read = none; shared = none; written = none; copies = [] }
-
-abbrev pub deskIn : List Desk → ℕ → Desk
-deskIn desks d = getD desks d beyond
+-- ---- records of the board
 
 abbrev pub deskAt : Board → ℕ → Desk
 deskAt b d = deskIn (b .desks) d
@@ -71,37 +57,6 @@ checks b d Abandon = not (isOpen (deskAt b d)) fails 5 ∷ []
 
 abbrev pub refusal : Board → ℕ → Request → ℕ
 refusal b d r = firstFailing (checks b d r)
-
--- ---- locks
-
--- for a read, a desk that has written the item conflicts; for a write, which w tells, also one that holds it shared
-abbrev pub conflicts : Desk → ℕ → Bool → Bool
-conflicts k i w = has (k .written) i || (w && has (k .shared) i)
-
--- another desk e is a conflicting holder of item i, for a request of desk d
-abbrev pub inTheWay : List Desk → Items → ℕ → ℕ → Bool → ℕ → Bool
-inTheWay desks guarded d i w e = has guarded i && not (eqb e d) && conflicts (deskIn desks e) i w
-
--- of the desks below n that p holds of, the one of lowest age; 16 where there is none
-unfoldable pub eldest : (ℕ → Bool) → (ℕ → ℕ) → ℕ → ℕ
-eldest p age zero = 16
-eldest p age (suc n) =
-    let e = eldest p age n in
-    cond (p n && (eqb e 16 || ltb (age n) (age e))) n e
-
--- of the conflicting holders, the one of lowest age; 16 where there is none
-abbrev pub holder : List Desk → Items → ℕ → ℕ → Bool → ℕ
-holder desks guarded d i w = eldest (inTheWay desks guarded d i w) (λ e. deskIn desks e .age .0) 16
-
--- with desk e the oldest holder: granted where there is none; wait if this transaction is older than e, and so than each; else yield.
--- A wait and a yield name desk e
-abbrev pub lockedBy : List Desk → ℕ → ℕ → Answer → ℕ → Answer
-lockedBy desks d i granted e =
-    cond (eqb e 16) granted
-    (cond (ltb (deskIn desks d .age .0) (deskIn desks e .age .0)) (Wait i e) (Aborted (Yield i e)))
-
-abbrev pub locked : List Desk → Items → ℕ → ℕ → Bool → Answer → Answer
-locked desks guarded d i w granted = lockedBy desks d i granted (holder desks guarded d i w)
 
 -- ---- the end
 
@@ -231,6 +186,13 @@ stepped b q = let a = answer b q in record { board = follow b q a; answer = a }
 -- of 8 bytes
 unfoldable pub step : Board → List ℕ → Stepped
 step b bytes = stepped b (decode bytes)
+
+-- of a run
+abbrev pub next : Board → List ℕ → Board
+next b q = step b q .board
+
+abbrev pub reply : Board → List ℕ → Answer
+reply b q = step b q .answer
 
 -- opens all of them, for what is to be computed
 unfoldable pub rules : Unit {0}

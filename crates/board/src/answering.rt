@@ -1,8 +1,8 @@
 // What is answered to a request: checks 4 to 9 in their order, then the locks or the end's validation. The board is only read.
 use crate::Board;
-use crate::Desk;
-use crate::locks::locked;
 use crate::validation::first_stale;
+use desks::Desk;
+use desks::locks::locked;
 use wire::Answer;
 use wire::Decoded;
 use wire::Reason;

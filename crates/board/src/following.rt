@@ -1,10 +1,8 @@
 // The board after an answer.
 use crate::Board;
-use crate::Desk;
-use crate::idle;
-use counters::Age;
-use counters::Number;
-use items::Items;
+use desks::Desk;
+use desks::idle;
+use desks::opened;
 use wire::Answer;
 use wire::Decoded;
 use wire::requests::desk_of;
@@ -13,21 +11,7 @@ ghost use mathlib.Core.Path.{_≡_};
 ghost use Prim.Native.Nat.{_<_};
 ghost use Rattle.wire.specs.Requests.{deskOf};
 ghost use Rattle.wire.specs.Answers.{itemOf};
-ghost use Rattle.board.specs.Rules.{opened, reading, writing, copyOf, installed, follow};
-
-// A transaction just begun.
-pub fn opened(age: Age, start: Number) -> Desk
-    ensures { λ r. ⌜ r ≡ opened age start ⌝ }
-{
-    Desk {
-        age,
-        start,
-        read: Items::NONE,
-        shared: Items::NONE,
-        written: Items::NONE,
-        copies: [0; 64],
-    }
-}
+ghost use Rattle.board.specs.Rules.{reading, writing, copyOf, installed, follow};
 
 // An open item joins the open-read set; a guarded one joins the shared set if the desk has not written it.
 fn reading(k: Desk, i: usize, guarded: bool) -> Desk

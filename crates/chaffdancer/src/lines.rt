@@ -1,6 +1,6 @@
 // The lines that are printed.
 use libc::STDOUT_FILENO;
-use wire::bytes::number_at;
+use words::number_at;
 ghost use Prim.Native.Nat.{_+_, _*_, _≤_};
 ghost use lib.ListN.{length};
 

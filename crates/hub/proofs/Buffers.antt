@@ -7,7 +7,7 @@ use native.Mathlib.Omega.{arith}
 use native.Mathlib.Numerals.{add-one}
 use lib.ListN.{length, take, drop, getD, drop-of-length-le}
 use lib.Seq.{paste, take-at, take-length, length-take-le, take-suc, drop-append-add, drop-drop}
-use Rattle.wire.specs.Bytes.{fourBytes}
+use Rattle.words.specs.Bytes.{fourBytes}
 use Rattle.hub.specs.Hub.{fourEach}
 
 -- a piece over the whole of d

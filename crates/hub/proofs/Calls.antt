@@ -8,10 +8,10 @@ use lib.ListN.{length, length-append}
 use lib.Seq.{take-at, drop-append-add}
 use Rattle.items.proofs.Tests.{by-test}
 use Rattle.runs.specs.Runs.{after}
-use Rattle.wire.specs.Bytes.{Bytes}
+use Rattle.words.specs.Bytes.{Bytes}
 use Rattle.wire.specs.Table.{wrong}
 use Rattle.wire.proofs.Rows.{right-long}
-use Rattle.board.specs.Demands.{next}
+use Rattle.board.specs.Rules.{next}
 use Rattle.board.specs.Opening.{opening}
 use Rattle.board.specs.Reached.{Eights}
 use Rattle.board.specs.declared.Board.{Board}

@@ -8,10 +8,10 @@ use lib.ListN.{length, take, drop, getD, length-append, length-take, length-drop
 use lib.Seq.{getD-drop, take-all}
 use Rattle.runs.specs.Runs.{after}
 use Rattle.runs.proofs.Grown.{after-more}
-use Rattle.wire.specs.Bytes.{Bytes, byte}
+use Rattle.words.specs.Bytes.{Bytes, byte}
 use Rattle.wire.specs.Answers.{encode}
 use Rattle.wire.specs.declared.Answer.{Answer}
-use Rattle.board.specs.Demands.{next, reply}
+use Rattle.board.specs.Rules.{next, reply}
 use Rattle.board.specs.declared.Board.{Board}
 use Rattle.hub.specs.Hub.{requestsOf, requestsIn, twelveEach, served}
 

@@ -6,13 +6,13 @@ use lib.Dec.{eqb, ltb}
 use lib.IntN.{ℤ, pos, negℤ}
 use lib.ListN.{length, take, drop}
 use Rattle.runs.specs.Runs.{after, answers}
-use Rattle.wire.specs.Bytes.{byte, fourBytes}
+use Rattle.words.specs.Bytes.{byte, fourBytes}
 use Rattle.wire.specs.Checks.{Check, _fails_, firstFailing}
 use Rattle.wire.specs.Answers.{encode}
 use Rattle.wire.specs.Table.{wrong}
 use Rattle.wire.specs.declared.Answer.{Answer}
+use Rattle.board.specs.Rules.{next, reply}
 use Rattle.board.specs.Opening.{opening}
-use Rattle.board.specs.Demands.{next, reply}
 use Rattle.board.specs.declared.Board.{Board}
 use Rattle.hub.specs.declared.host.Opened.{Opened}
 use Rattle.hub.specs.declared.host.Told.{Told}

@@ -1,15 +1,15 @@
 // The board of an opening table.
 use board::Board;
-use board::idle;
 use counters::Age;
 use counters::Number;
+use desks::idle;
 use items::Items;
-use wire::bytes::number_at;
+use words::number_at;
 ghost use mathlib.Core.Path.{_≡_};
 ghost use Prim.Native.Nat.{_+_, _*_, _≤_};
 ghost use lib.ListN.{length};
 ghost use lib.Dec.{eqb};
-ghost use Rattle.wire.specs.Bytes.{wordAt};
+ghost use Rattle.words.specs.Bytes.{wordAt};
 ghost use Rattle.wire.specs.Table.{kindAt};
 ghost use Rattle.board.specs.Opening.{column, gathered, opening};
 

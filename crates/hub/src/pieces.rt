@@ -1,5 +1,5 @@
 // Pieces of a buffer: requests of 8 bytes, answers of 12, values of 4.
-use wire::bytes::four_bytes;
+use words::four_bytes;
 ghost use mathlib.Core.Path.{_≡_};
 ghost use mathlib.Core.List.{_++_};
 ghost use Prim.Native.Nat.{_+_, _≤_};

@@ -15,7 +15,7 @@ ghost use Prim.Native.Nat.{_*_, _/_, _≤_};
 ghost use lib.IntN.{pos, negℤ};
 ghost use lib.ListN.{length, drop};
 ghost use Rattle.runs.specs.Runs.{after};
-ghost use Rattle.board.specs.Demands.{next};
+ghost use Rattle.board.specs.Rules.{next};
 ghost use Rattle.board.specs.Opening.{opening};
 ghost use Rattle.board.specs.Reached.{Reached};
 ghost use Rattle.hub.specs.Hub.{Outcome, requestsIn, served, refusal, completed};

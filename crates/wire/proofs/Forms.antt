@@ -6,7 +6,7 @@ use Prim.Native.Nat.{ℕ, _≤_, _<_, suc-le-suc}
 use borrow.Author.Tests.{le-ltb, lt-ltb, eqb-true, ltb-false}
 use lib.Dec.{eqb, ltb}
 use Rattle.items.proofs.Tests.{by-cond}
-use Rattle.wire.specs.Bytes.{byte, wordAt}
+use Rattle.words.specs.Bytes.{byte, wordAt}
 use Rattle.wire.specs.Requests.{requestOf, unusedZero, formChecks, malformed, decode}
 use Rattle.wire.specs.declared.Request.{Request}
 use Rattle.wire.specs.declared.Decoded.{Decoded}

@@ -1,12 +1,11 @@
 -- An answer's 12 bytes lose nothing that the outline fills: whoever reads them back has the desk byte and the answer again.
-use Prim.Native.Nat.{ℕ, _+_, _*_, _/_, _%_, _<_}
+use Prim.Native.Nat.{ℕ, _<_}
 use mathlib.Core.Path.{_≡_, refl, ap, ap₂, sym, _∙_}
 use mathlib.Core.Bool.{cond}
 use mathlib.Core.List.{List}
-use native.Mathlib.Nat.{div-div-eq-div-mul, mod-eq-of-lt}
-use native.Mathlib.Omega.{arith}
 use lib.Dec.{eqb}
-use Rattle.wire.specs.Bytes.{byte, wordAt}
+use Rattle.words.specs.Bytes.{byte, wordAt}
+use Rattle.words.proofs.Fours.{four-tell}
 use Rattle.wire.specs.Answers.{fields, encode}
 use Rattle.wire.specs.declared.Reason.the-variants.{Overwritten, TooOld, Yield}
 use Rattle.wire.specs.declared.Answer.{Answer}
@@ -45,23 +44,6 @@ fields-tell (Aborted (Yield i e)) = refl
 pub record Small (a : Answer) : Type 0 where
   pub first : byte (fields a) 3 < 4294967296
   pub second : byte (fields a) 4 < 4294967296
-
-split : (n : ℕ) → n ≡ n % 256 + 256 * (n / 256)
-split n = omega arith
-
-last-byte : (n : ℕ) → n < 4294967296 → n / 256 / 256 / 256 < 256
-last-byte n h = omega arith
-
-whole : (n r a s b t c u : ℕ) → n ≡ r + 256 * a → a ≡ s + 256 * b → b ≡ t + 256 * c → u ≡ c → r + 256 * s + 65536 * t + 16777216 * u ≡ n
-whole n r a s b t c u p q w x = omega arith
-
-four-tell : (n : ℕ) → n < 4294967296 → n % 256 + 256 * (n / 256 % 256) + 65536 * (n / 65536 % 256) + 16777216 * (n / 16777216 % 256) ≡ n
-four-tell n h =
-    let two : n / 65536 ≡ n / 256 / 256 = sym (div-div-eq-div-mul n 256 256) in
-    let three : n / 16777216 ≡ n / 256 / 256 / 256 = sym (div-div-eq-div-mul n 65536 256) ∙ ap (λ (m : ℕ). m / 256) two in
-    rw (two, three)
-    (whole n (n % 256) (n / 256) (n / 256 % 256) (n / 256 / 256) (n / 256 / 256 % 256) (n / 256 / 256 / 256) (n / 256 / 256 / 256 % 256)
-    (split n) (split (n / 256)) (split (n / 256 / 256)) (mod-eq-of-lt (last-byte n h)))
 
 -- what is read back of 12 bytes
 abbrev heard : List ℕ → Answer

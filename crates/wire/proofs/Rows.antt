@@ -8,7 +8,7 @@ use lib.Dec.{eqb}
 use lib.ListN.{length}
 use Rattle.items.proofs.Tests.{by-equal, clash}
 use Rattle.items.proofs.First.{every-is, every-not}
-use Rattle.wire.specs.Bytes.{byte}
+use Rattle.words.specs.Bytes.{byte}
 use Rattle.wire.specs.Table.{floorAt, ceilingAt, valueAt, kindAt, rowRight, wrong}
 
 module _ (t : List ℕ) (i : ℕ) where

@@ -1,7 +1,7 @@
 -- Outline, "What comes back": a 12-byte record: byte 0 code, 1 the request's desk byte, 2 item, 3 reason, 4 to 7 first number, 8 to 11 second.
 use Prim.Native.Nat.{ℕ}
 use mathlib.Core.List.{List, [], _∷_, _++_}
-use Rattle.wire.specs.Bytes.{byte, fourBytes}
+use Rattle.words.specs.Bytes.{byte, fourBytes}
 use Rattle.wire.specs.declared.Reason.{Reason}
 use Rattle.wire.specs.declared.Reason.the-variants.{Overwritten, TooOld, Yield}
 use Rattle.wire.specs.declared.Answer.{Answer}

@@ -1,4 +1,3 @@
-pub mod Bytes
 pub mod Checks
 pub mod Requests
 pub mod Answers

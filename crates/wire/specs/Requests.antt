@@ -3,7 +3,7 @@ use Prim.Native.Nat.{ℕ}
 use mathlib.Core.Bool.{Bool, cond, not, _&&_, _||_}
 use mathlib.Core.List.{List, [], _∷_}
 use lib.Dec.{eqb, ltb}
-use Rattle.wire.specs.Bytes.{byte, wordAt}
+use Rattle.words.specs.Bytes.{byte, wordAt}
 use Rattle.wire.specs.Checks.{Check, _fails_, firstFailing}
 use Rattle.wire.specs.declared.Request.{Request}
 use Rattle.wire.specs.declared.Request.the-variants.{Begin, Read, Write, End, Abandon}

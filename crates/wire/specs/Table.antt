@@ -5,7 +5,7 @@ use mathlib.Core.List.{List}
 use lib.Dec.{eqb, leb}
 use lib.ListN.{length}
 use Rattle.items.specs.First.{every}
-use Rattle.wire.specs.Bytes.{byte, wordAt}
+use Rattle.words.specs.Bytes.{byte, wordAt}
 
 -- what row i says
 abbrev pub floorAt : List ℕ → ℕ → ℕ

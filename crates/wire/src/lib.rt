@@ -1,6 +1,5 @@
 // Requests, answers and the opening table, and their bytes.
 pub mod answers;
-pub mod bytes;
 pub mod requests;
 pub mod table;
 

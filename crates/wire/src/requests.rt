@@ -1,7 +1,7 @@
 // A request: 8 bytes.
 use crate::Decoded;
 use crate::Request;
-use crate::bytes::number;
+use words::number;
 ghost use mathlib.Core.Path.{_≡_};
 ghost use Rattle.wire.specs.Requests.{requestOf, unusedZero, valueIn, decode, deskOf, valueOf};
 

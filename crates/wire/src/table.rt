@@ -1,5 +1,5 @@
 // The opening table: 64 rows of 16 bytes.
-use crate::bytes::number_at;
+use words::number_at;
 ghost use mathlib.Core.Path.{_≡_};
 ghost use Prim.Native.Nat.{_+_, _*_, _≤_};
 ghost use lib.ListN.{length};

@@ -6,7 +6,7 @@ use native.Mathlib.Omega.{arith}
 use native.Mathlib.Numerals.{add-one}
 use borrow.Author.Needs.{needs}
 use lib.ListN.{replicate}
-use Rattle.wire.specs.Bytes.{wordAt}
+use Rattle.words.specs.Bytes.{wordAt}
 use Rattle.board.specs.Rules.{filled}
 use Rattle.hub.proofs.opening.column.Statement.{statement}
 use Rattle.hub.proofs.opening.column.Tie as tie

@@ -10,9 +10,9 @@ use mir.Syntax.{w64}
 use mir.Val.{toZ}
 use mir.Facts.{toZ-pos}
 use Rattle.runs.specs.Runs.{after}
-use Rattle.wire.specs.Bytes.{Bytes}
+use Rattle.words.specs.Bytes.{Bytes}
 use Rattle.wire.proofs.Rows.{right-long}
-use Rattle.board.specs.Demands.{next}
+use Rattle.board.specs.Rules.{next}
 use Rattle.board.specs.Opening.{opening}
 use Rattle.board.specs.declared.Board.{Board}
 use Rattle.board.proofs.Reached.{reached-opening}

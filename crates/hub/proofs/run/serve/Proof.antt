@@ -6,11 +6,10 @@ use native.Mathlib.Omega.{arith}
 use borrow.Author.Needs.{needs}
 use lib.ListN.{length, drop}
 use Rattle.runs.specs.Runs.{after}
-use Rattle.wire.specs.Bytes.{byte}
+use Rattle.words.specs.Bytes.{byte}
 use Rattle.wire.specs.Answers.{encode}
-use Rattle.board.specs.Demands.{next, reply}
 use Rattle.board.specs.Reached.{Reached}
-use Rattle.board.specs.Rules.{step}
+use Rattle.board.specs.Rules.{step, next, reply}
 use Rattle.board.proofs.Reached.{reached-step}
 use Rattle.board.specs.declared.Board.{Board}
 use Rattle.board.specs.declared.Stepped.{Stepped}

@@ -9,7 +9,7 @@ use borrow.Author.Needs.{needs}
 use borrow.Author.Tests.{ne-eqb, not-true, not-false}
 use lib.Dec.{eqb, ltb}
 use Rattle.items.proofs.Tests.{or-both, or-in-right}
-use Rattle.wire.specs.Bytes.{byte}
+use Rattle.words.specs.Bytes.{byte}
 use Rattle.wire.specs.Requests.{requestOf, unusedZero}
 use Rattle.wire.specs.declared.Decoded.the-variants.{Asked}
 use Rattle.wire.proofs.Forms.{kind-wrong, desk-wrong, field-wrong, all-right}

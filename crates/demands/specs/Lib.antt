@@ -1,0 +1,5 @@
+pub mod History
+pub mod Demands
+pub mod Waiting
+pub mod Example
+pub mod Cases
