@@ -9,7 +9,8 @@ use Rattle.wire.specs.Checks.{firstFailing}
 use Rattle.wire.proofs.Checks.{Passed, all-passed}
 use Rattle.wire.specs.declared.Request.the-variants.{Begin, Read, Write, End, Abandon}
 use Rattle.wire.specs.declared.Answer.the-variants.{Refused, Abandoned}
-use Rattle.board.specs.Rules.{isOpen, deskAt, itemChecks, granted, answered}
+use Rattle.desks.specs.Desks.{isOpen}
+use Rattle.board.specs.Rules.{deskAt, itemChecks, granted, answered}
 use Rattle.board.specs.declared.Board.{Board}
 
 module _ (b : Board) (d : ℕ) where

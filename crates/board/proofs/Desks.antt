@@ -12,8 +12,8 @@ use Rattle.items.proofs.Tests.{by-cond, by-equal, clash, or-left, or-right, or-
 use Rattle.items.proofs.Laws.{has-none, with-same, with-other, with-less, without-other}
 use Rattle.counters.specs.declared.Age.{Age}
 use Rattle.counters.specs.declared.Number.{Number}
-use Rattle.desks.specs.Desks.{idle, opened, beyond, deskIn}
-use Rattle.board.specs.Rules.{isOpen, copyOf, reading, writing}
+use Rattle.desks.specs.Desks.{idle, opened, beyond, deskIn, isOpen, copyOf}
+use Rattle.board.specs.Rules.{reading, writing}
 use Rattle.desks.specs.declared.Desk.{Desk}
 
 -- desk k holds item i, alone or shared

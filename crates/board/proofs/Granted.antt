@@ -1,4 +1,4 @@
--- What an answer tells of the board that gave it. Only this file, Ways, Due, Named and Seen look into how answers are decided.
+-- What an answer tells of the board that gave it. Only this file and, in the crate demands, Due, Named and Seen look into how answers are decided.
 use mathlib.Core.Path.{_≡_, refl}
 use mathlib.Core.Logic.{_≢_}
 use mathlib.Core.Bool.{Bool, true, false, not}
@@ -21,8 +21,8 @@ use Rattle.wire.specs.declared.Decoded.the-variants.{Asked, Malformed}
 use Rattle.wire.specs.declared.Answer.{Answer}
 use Rattle.wire.specs.declared.Answer.the-variants.{Refused, Opened, Value, Stored, Wait, Committed, Abandoned, Aborted}
 use Rattle.wire.proofs.Checks.{Passed, numbered, all-passed}
-use Rattle.desks.specs.Desks.{conflicts, inTheWay, holder, locked}
-use Rattle.board.specs.Rules.{isOpen, seen, deskAt, isGuarded, checks, refusal, writeSet, firstStale, ended, granted, answered, answer}
+use Rattle.desks.specs.Desks.{conflicts, inTheWay, holder, locked, isOpen}
+use Rattle.board.specs.Rules.{seen, deskAt, isGuarded, checks, refusal, writeSet, firstStale, ended, granted, answered, answer}
 use Rattle.desks.specs.declared.Desk.{Desk}
 use Rattle.board.specs.declared.Board.{Board}
 use Rattle.board.proofs.Desks.{holds}

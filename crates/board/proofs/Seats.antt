@@ -10,8 +10,7 @@ use lib.ListN.{set, length, length-set}
 use lib.Seq.{getD-set-same, getD-set-other}
 use Rattle.items.specs.declared.Items.{Items}
 use Rattle.items.proofs.Tests.{by-equal}
-use Rattle.desks.specs.Desks.{beyond, deskIn}
-use Rattle.board.specs.Rules.{isOpen}
+use Rattle.desks.specs.Desks.{beyond, deskIn, isOpen}
 use Rattle.desks.specs.declared.Desk.{Desk}
 use Rattle.board.proofs.Desks.{DeskSound, Excludes, Locks, locks-set}
 use Rattle.desks.proofs.Ages.{AgesApart}

@@ -16,8 +16,8 @@ use Rattle.wire.specs.Requests.{decode, deskOf, valueOf}
 use Rattle.wire.specs.declared.Decoded.{Decoded}
 use Rattle.wire.specs.declared.Answer.{Answer}
 use Rattle.wire.specs.declared.Answer.the-variants.{Refused, Opened, Value, Stored, Wait, Committed, Abandoned, Aborted}
-use Rattle.desks.specs.Desks.{idle, opened, beyond, deskIn}
-use Rattle.board.specs.Rules.{isOpen, copyOf, reading, writing, deskAt, isGuarded, put, begun, committed, answer, follow, step}
+use Rattle.desks.specs.Desks.{idle, opened, beyond, deskIn, isOpen, copyOf}
+use Rattle.board.specs.Rules.{reading, writing, deskAt, isGuarded, put, begun, committed, answer, follow, step}
 use Rattle.board.specs.Opening.{opening}
 use Rattle.desks.specs.declared.Desk.{Desk}
 use Rattle.board.specs.declared.Board.{Board}

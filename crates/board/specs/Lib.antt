@@ -1,3 +1,5 @@
 pub mod Rules
 pub mod Opening
+pub mod Example
+pub mod Cases
 pub mod Reached

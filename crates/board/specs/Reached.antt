@@ -6,7 +6,8 @@ use mathlib.Core.List.{List, [], _∷_}
 use Rattle.runs.specs.Runs.{after}
 use Rattle.words.specs.Bytes.{Bytes}
 use Rattle.wire.specs.Table.{wrong}
-use Rattle.board.specs.Rules.{isOpen, deskAt, next}
+use Rattle.desks.specs.Desks.{isOpen}
+use Rattle.board.specs.Rules.{deskAt, next}
 use Rattle.board.specs.Opening.{opening}
 use Rattle.board.specs.declared.Board.{Board}
 

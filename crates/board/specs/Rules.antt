@@ -20,7 +20,7 @@ use Rattle.wire.specs.declared.Decoded.the-variants.{Asked, Malformed}
 use Rattle.wire.specs.declared.Reason.the-variants.{Overwritten, TooOld}
 use Rattle.wire.specs.declared.Answer.{Answer}
 use Rattle.wire.specs.declared.Answer.the-variants.{Refused, Opened, Value, Stored, Wait, Committed, Abandoned, Aborted}
-use Rattle.desks.specs.Desks.{idle, opened, deskIn, eldest, locked}
+use Rattle.desks.specs.Desks.{idle, opened, isOpen, copyOf, deskIn, eldest, locked}
 use Rattle.desks.specs.declared.Desk.{Desk}
 use Rattle.board.specs.declared.Board.{Board}
 use Rattle.board.specs.declared.Stepped.{Stepped}
@@ -30,16 +30,8 @@ use Rattle.board.specs.declared.Stepped.{Stepped}
 abbrev pub deskAt : Board → ℕ → Desk
 deskAt b d = deskIn (b .desks) d
 
--- a transaction is open: ages begin at 1
-abbrev pub isOpen : Desk → Bool
-isOpen k = not (eqb (k .age .0) 0)
-
 abbrev pub isGuarded : Board → ℕ → Bool
 isGuarded b i = has (b .guarded) i
-
--- the desk's private copy of item i
-abbrev pub copyOf : Desk → ℕ → ℕ
-copyOf k i = getD (k .copies) i 0
 
 -- ---- refusals 4 to 9, in their order
 
@@ -57,6 +49,8 @@ checks b d Abandon = not (isOpen (deskAt b d)) fails 5 ∷ []
 
 abbrev pub refusal : Board → ℕ → Request → ℕ
 refusal b d r = firstFailing (checks b d r)
+
+-- ---- locks: `locked` of the crate desks
 
 -- ---- the end
 

@@ -12,7 +12,8 @@ ghost use Prim.Native.Nat.{_<_};
 ghost use Rattle.wire.specs.Checks.{firstFailing};
 ghost use Rattle.wire.specs.Requests.{deskOf};
 ghost use Rattle.wire.specs.declared.Request;
-ghost use Rattle.board.specs.Rules.{isOpen, itemChecks, seen, answered, answer};
+ghost use Rattle.desks.specs.Desks.{isOpen};
+ghost use Rattle.board.specs.Rules.{itemChecks, seen, answered, answer};
 ghost use Rattle.board.specs.Reached.{Counted};
 
 // A transaction is open: ages begin at 1.

@@ -11,7 +11,8 @@ ghost use mathlib.Core.Path.{_≡_};
 ghost use Prim.Native.Nat.{_<_};
 ghost use Rattle.wire.specs.Requests.{deskOf};
 ghost use Rattle.wire.specs.Answers.{itemOf};
-ghost use Rattle.board.specs.Rules.{reading, writing, copyOf, installed, follow};
+ghost use Rattle.desks.specs.Desks.{copyOf};
+ghost use Rattle.board.specs.Rules.{reading, writing, installed, follow};
 
 // An open item joins the open-read set; a guarded one joins the shared set if the desk has not written it.
 fn reading(k: Desk, i: usize, guarded: bool) -> Desk

@@ -14,8 +14,8 @@ use Rattle.items.proofs.Tests.{by-test, clash}
 use Rattle.runs.specs.Replay.{Op, Transaction, replayed, Fits}
 use Rattle.runs.proofs.Log.{replayed-at, replayed-length, fits}
 use Rattle.runs.proofs.Account.{account-none, account-moved, account-fits}
-use Rattle.desks.specs.Desks.{idle, deskIn}
-use Rattle.board.specs.Rules.{copyOf, installed}
+use Rattle.desks.specs.Desks.{idle, deskIn, copyOf}
+use Rattle.board.specs.Rules.{installed}
 use Rattle.desks.specs.declared.Desk.{Desk}
 use Rattle.board.proofs.Filled.{filled-length, filled-other, filled-at}
 use Rattle.board.proofs.Desks.{Locks, idle-blank, blank-written}

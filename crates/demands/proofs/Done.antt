@@ -16,8 +16,8 @@ use Rattle.wire.specs.declared.Request.{Request}
 use Rattle.wire.specs.declared.Decoded.{Decoded}
 use Rattle.wire.specs.declared.Answer.{Answer}
 use Rattle.wire.specs.declared.Answer.the-variants.{Refused, Opened, Value, Stored, Wait, Committed, Abandoned, Aborted}
-use Rattle.desks.specs.Desks.{beyond, idle, opened}
-use Rattle.board.specs.Rules.{reading, writing, copyOf, deskAt, put, begun, committed, answer, follow, step}
+use Rattle.desks.specs.Desks.{beyond, idle, opened, copyOf}
+use Rattle.board.specs.Rules.{reading, writing, deskAt, put, begun, committed, answer, follow, step}
 use Rattle.demands.specs.Demands.{bound, changesNothing, Unchanged}
 use Rattle.desks.specs.declared.Desk.{Desk}
 use Rattle.board.specs.declared.Board.{Board}

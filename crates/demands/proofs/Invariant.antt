@@ -17,8 +17,8 @@ use Rattle.runs.specs.Replay.{Op, Transaction, replayedAll, Serial, Numbered}
 use Rattle.runs.proofs.Account.{Account}
 use Rattle.runs.proofs.Since.{since, wroteBy}
 use Rattle.counters.specs.declared.Age.{Age}
-use Rattle.desks.specs.Desks.{beyond, deskIn}
-use Rattle.board.specs.Rules.{copyOf, writeSet}
+use Rattle.desks.specs.Desks.{beyond, deskIn, copyOf}
+use Rattle.board.specs.Rules.{writeSet}
 use Rattle.demands.specs.History.{History}
 use Rattle.desks.specs.declared.Desk.{Desk}
 use Rattle.board.specs.declared.Board.{Board}

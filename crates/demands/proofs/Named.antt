@@ -13,8 +13,8 @@ use Rattle.wire.specs.declared.Request.{Request}
 use Rattle.wire.specs.declared.Request.the-variants.{Begin, Read, Write, End, Abandon}
 use Rattle.wire.specs.declared.Answer.{Answer}
 use Rattle.wire.specs.declared.Answer.the-variants.{Value, Stored}
-use Rattle.desks.specs.Desks.{conflicts, inTheWay, holder, locked}
-use Rattle.board.specs.Rules.{isOpen, seen, deskAt, isGuarded, checks, refusal, granted, answered, answer, step}
+use Rattle.desks.specs.Desks.{conflicts, inTheWay, holder, locked, isOpen}
+use Rattle.board.specs.Rules.{seen, deskAt, isGuarded, checks, refusal, granted, answered, answer, step}
 use Rattle.demands.specs.Demands.{names}
 use Rattle.demands.specs.Waiting.{conflicting, Older, OldestHolder, NamesHolder, NamesTheOldest}
 use Rattle.board.specs.declared.Board.{Board}

@@ -19,7 +19,7 @@ use Rattle.board.specs.Rules.{rules, next, reply}
 use Rattle.board.specs.Opening.{opening}
 use Rattle.demands.specs.Demands.{isFrom, bounds, concerns, Apart}
 use Rattle.demands.proofs.Exchange.{exchanges}
-use Rattle.demands.specs.Example.{table, table-right, computing, begin, read, write, end, abandon}
+use Rattle.board.specs.Example.{table, table-right, computing, begin, read, write, end, abandon}
 
 -- ---- lists of answers, compared by their numbers
 

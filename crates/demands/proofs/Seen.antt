@@ -19,8 +19,8 @@ use Rattle.wire.specs.declared.Decoded.the-variants.{Asked}
 use Rattle.wire.specs.declared.Reason.the-variants.{Yield}
 use Rattle.wire.specs.declared.Answer.{Answer}
 use Rattle.wire.specs.declared.Answer.the-variants.{Refused, Opened, Value, Wait, Aborted}
-use Rattle.desks.specs.Desks.{conflicts, inTheWay, holder, lockedBy, locked}
-use Rattle.board.specs.Rules.{isOpen, copyOf, deskAt, isGuarded, refusal, ended, granted, answered, answer}
+use Rattle.desks.specs.Desks.{conflicts, inTheWay, holder, lockedBy, locked, isOpen, copyOf}
+use Rattle.board.specs.Rules.{deskAt, isGuarded, refusal, ended, granted, answered, answer}
 use Rattle.demands.specs.Demands.{bound, names, touched, concerns}
 use Rattle.desks.specs.declared.Desk.{Desk}
 use Rattle.board.specs.declared.Board.{Board}

@@ -21,7 +21,7 @@ use Rattle.demands.specs.History.{RunReplays}
 use Rattle.demands.specs.Demands.{Apart}
 use Rattle.board.specs.declared.Board.{Board}
 use Rattle.demands.proofs.Needed.{not-both}
-use Rattle.demands.specs.Example.{table, computing, begin, end, abandon}
+use Rattle.board.specs.Example.{table, computing, begin, end, abandon}
 
 abbrev itself : Board → Board
 itself b = b

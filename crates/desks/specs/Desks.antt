@@ -16,13 +16,21 @@ use Rattle.desks.specs.declared.Desk.{Desk}
 
 -- ---- records of a desk
 
--- a desk with nothing open: all of it at zero or empty
-abbrev pub idle : Desk
-idle = record { age = noAge; start = noNumber; read = none; shared = none; written = none; copies = replicate 64 0 }
-
--- a transaction just begun
+-- a transaction just begun: nothing read, held or written
 abbrev pub opened : Age → Number → Desk
 opened a s = record { age = a; start = s; read = none; shared = none; written = none; copies = replicate 64 0 }
+
+-- a desk with nothing open: all of it at zero or empty
+abbrev pub idle : Desk
+idle = opened noAge noNumber
+
+-- a transaction is open: ages begin at 1
+abbrev pub isOpen : Desk → Bool
+isOpen k = not (eqb (k .age .0) 0)
+
+-- the desk's private copy of item i
+abbrev pub copyOf : Desk → ℕ → ℕ
+copyOf k i = getD (k .copies) i 0
 
 -- a desk's record; past the sixteenth there is none, not even room for copies
 abbrev pub beyond : Desk

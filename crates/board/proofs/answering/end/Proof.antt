@@ -5,7 +5,8 @@ use mathlib.Core.Bool.{true}
 use native.Mathlib.Omega.{arith}
 use borrow.Author.Tests.{not-true, not-false}
 use Rattle.items.proofs.Laws.{lowest-le}
-use Rattle.board.specs.Rules.{isOpen, deskAt}
+use Rattle.desks.specs.Desks.{isOpen}
+use Rattle.board.specs.Rules.{deskAt}
 use Rattle.board.specs.Reached.{Counted}
 use Rattle.board.specs.declared.Board.{Board}
 use Rattle.board.proofs.Decided.{end-none, end-granted}

@@ -1,10 +1,19 @@
 -- By the answer: each arm's record is what `fields` gives for it.
 use borrow.Author.Needs.{needs}
-use mathlib.Core.Path.{sym, ap, _∙_}
-use Rattle.wire.specs.Answers.{encode}
+use Prim.Native.Nat.{ℕ}
+use mathlib.Core.Path.{_≡_, sym, ap, _∙_}
+use mathlib.Core.List.{List}
+use Rattle.words.specs.Bytes.{byte}
+use Rattle.wire.specs.Answers.{fields, recordOf, encode}
+use Rattle.wire.specs.declared.Answer.{Answer}
 use Rattle.wire.specs.declared.Answer.the-variants.{Aborted}
 use Rattle.wire.proofs.answers.encode.Statement.{statement}
 use Rattle.wire.proofs.answers.encode.Tie as tie
+
+-- the answer is known to be x, and what is given is the record of x
+arm : (desk : ℕ) {a x : Answer} → a ≡ x → {r : List ℕ} → r ≡ (let f = fields x in recordOf (byte f 0) desk (byte f 1) (byte f 2) (byte f 3) (byte f 4)) → r ≡ encode desk a
+unfolding encode
+arm desk known e = e ∙ sym (ap (encode desk) known)
 
 enum-known-a : tie.Need-enum-known-a
 enum-known-a c = search needs
@@ -76,44 +85,34 @@ record-requires-10 : tie.Need-record-requires-10
 record-requires-10 c κs = search needs
 
 returns : tie.Need-returns
-unfolding encode
-returns c = c .«record» .ensures ∙ sym (ap (encode _) (c .before .before .a .given .1))
+returns c = arm _ (c .before .before .a .given .1) (c .«record» .ensures)
 
 returns-2 : tie.Need-returns-2
-unfolding encode
-returns-2 c = c .record2 .ensures ∙ sym (ap (encode _) (c .before .before .a2 .given .1))
+returns-2 c = arm _ (c .before .before .a2 .given .1) (c .record2 .ensures)
 
 returns-3 : tie.Need-returns-3
-unfolding encode
-returns-3 c = c .record3 .ensures ∙ sym (ap (encode _) (c .before .before .a3 .given .1))
+returns-3 c = arm _ (c .before .before .a3 .given .1) (c .record3 .ensures)
 
 returns-4 : tie.Need-returns-4
-unfolding encode
-returns-4 c = c .record4 .ensures ∙ sym (ap (encode _) (c .before .before .a4 .given .1))
+returns-4 c = arm _ (c .before .before .a4 .given .1) (c .record4 .ensures)
 
 returns-5 : tie.Need-returns-5
-unfolding encode
-returns-5 c = c .record5 .ensures ∙ sym (ap (encode _) (c .before .before .a5 .given .1))
+returns-5 c = arm _ (c .before .before .a5 .given .1) (c .record5 .ensures)
 
 returns-6 : tie.Need-returns-6
-unfolding encode
-returns-6 c = c .record6 .ensures ∙ sym (ap (encode _) (c .before .before .a6 .given .1))
+returns-6 c = arm _ (c .before .before .a6 .given .1) (c .record6 .ensures)
 
 returns-7 : tie.Need-returns-7
-unfolding encode
-returns-7 c = c .record7 .ensures ∙ sym (ap (encode _) (c .before .enum-told .given .1))
+returns-7 c = arm _ (c .before .enum-told .given .1) (c .record7 .ensures)
 
 returns-8 : tie.Need-returns-8
-unfolding encode
-returns-8 c = c .record8 .ensures ∙ sym (ap (encode _) (c .before .before .before .before .before .a7 .given .1 ∙ ap Aborted (c .before .before .why .given .1)))
+returns-8 c = arm _ (c .before .before .before .before .before .a7 .given .1 ∙ ap Aborted (c .before .before .why .given .1)) (c .record8 .ensures)
 
 returns-9 : tie.Need-returns-9
-unfolding encode
-returns-9 c = c .record9 .ensures ∙ sym (ap (encode _) (c .before .before .before .before .before .a7 .given .1 ∙ ap Aborted (c .before .before .why2 .given .1)))
+returns-9 c = arm _ (c .before .before .before .before .before .a7 .given .1 ∙ ap Aborted (c .before .before .why2 .given .1)) (c .record9 .ensures)
 
 returns-10 : tie.Need-returns-10
-unfolding encode
-returns-10 c = c .record10 .ensures ∙ sym (ap (encode _) (c .before .before .before .before .before .a7 .given .1 ∙ ap Aborted (c .before .before .why3 .given .1)))
+returns-10 c = arm _ (c .before .before .before .before .before .a7 .given .1 ∙ ap Aborted (c .before .before .why3 .given .1)) (c .record10 .ensures)
 
 pub encode-spec : {M : Type 1} → statement M
 encode-spec =

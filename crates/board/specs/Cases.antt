@@ -7,9 +7,9 @@ use lib.ListN.{set}
 use Rattle.runs.specs.Runs.{after, answers}
 use Rattle.wire.specs.Answers.{fields}
 use Rattle.desks.specs.Desks.{idle}
 use Rattle.board.specs.Rules.{deskAt, next, reply}
 use Rattle.board.specs.Opening.{opening}
-use Rattle.demands.specs.Example.{table, computing, begin, read, write, end}
+use Rattle.board.specs.Example.{table, computing, begin, read, write, end}
 
 pub record Case : Type 0 where
   pub requests : List (List ℕ)
