@@ -1,7 +1,8 @@
 -- Outline, "Records of a desk and of the board", the part of a desk; and "Locks".
 use Prim.Native.Nat.{ℕ, zero, suc}
-use mathlib.Core.Bool.{Bool, cond, not, _&&_, _||_}
-use mathlib.Core.List.{List, []}
+use mathlib.Core.Path.{_≡_, refl}
+use mathlib.Core.Bool.{Bool, true, cond, not, _&&_, _||_}
+use mathlib.Core.List.{List, [], _∷_}
 use lib.ListN.{getD, replicate}
 use lib.Dec.{eqb, ltb}
 use Rattle.items.specs.Items.{none, has}
@@ -55,6 +56,11 @@ eldest p age zero = 16
 eldest p age (suc n) =
     let e = eldest p age n in
     cond (p n && (eqb e 16 || ltb (age n) (age e))) n e
+
+-- of desks with ages 3, 1 and 2 it is desk 1
+pub of-three : eldest (λ e. true) (λ e. getD (3 ∷ 1 ∷ 2 ∷ []) e 0) 3 ≡ 1
+unfolding eldest
+of-three = refl
 
 -- of the conflicting holders, the one of lowest age; 16 where there is none
 abbrev pub holder : List Desk → Items → ℕ → ℕ → Bool → ℕ
