@@ -40,8 +40,10 @@ is-empty-requires c κs = search needs
 returns-2 : tie.Need-returns-2
 returns-2 c =
     let a = c .before .before .before .before .before .before .before .before .args in
-    rw (c .before .before .next .ensures)
-    (ended-unread (a .b .sets) (a .b .number) (deskAt (a .b) (a .d)) (sym (c .before .is-empty .ensures) ∙ c .if2 .taken) ∙ end-granted _ _ (sym (c .before .before .before .before .before .is-open .ensures) ∙ not-false (c .before .before .before .before .before .is-open .result) (c .before .before .before .before .if1 .left)))
+    let is-open = c .before .before .before .before .before .is-open in
+    let busy = sym (is-open .ensures) ∙ not-false (is-open .result) (c .before .before .before .before .if1 .left) in
+    let unread = sym (c .before .is-empty .ensures) ∙ c .if2 .taken in
+    rw (c .before .before .next .ensures) (ended-unread (a .b .sets) (a .b .number) (deskAt (a .b) (a .d)) unread ∙ end-granted _ _ busy)
 
 since-requires : tie.Need-since-requires
 since-requires c κs = c .before .before .before .before .before .before .before .before .before .pre .1 .started (c .before .before .before .before .before .before .before .before .before .args .d) (search needs)
@@ -49,17 +51,28 @@ since-requires c κs = c .before .before .before .before .before .before .before
 returns-3 : tie.Need-returns-3
 returns-3 c =
     let a = c .before .before .before .before .before .before .before .before .before .before .before .args in
-    ended-old (a .b .sets) (a .b .number) (deskAt (a .b) (a .d)) (sym (c .before .before .before .before .is-empty .ensures) ∙ c .before .before .before .if2 .left) (omega arith) ∙ end-granted _ _ (sym (c .before .before .before .before .before .before .before .before .is-open .ensures) ∙ not-false (c .before .before .before .before .before .before .before .before .is-open .result) (c .before .before .before .before .before .before .before .if1 .left))
+    let is-open = c .before .before .before .before .before .before .before .before .is-open in
+    let busy = sym (is-open .ensures) ∙ not-false (is-open .result) (c .before .before .before .before .before .before .before .if1 .left) in
+    let some = sym (c .before .before .before .before .is-empty .ensures) ∙ c .before .before .before .if2 .left in
+    ended-old (a .b .sets) (a .b .number) (deskAt (a .b) (a .d)) some (omega arith) ∙ end-granted _ _ busy
 
 first-stale-requires : tie.Need-first-stale-requires
-first-stale-requires c κs = (c .before .before .before .before .before .before .before .before .before .before .before .before .pre .1 .started (c .before .before .before .before .before .before .before .before .before .before .before .before .args .d) (search needs), room (c .before .before .before .before .before .before .before .before .before .before .before .before .pre .1) (search needs) (sym (c .before .before .before .before .before .before .before .before .before .is-open .ensures) ∙ not-false (c .before .before .before .before .before .before .before .before .before .is-open .result) (c .before .before .before .before .before .before .before .before .if1 .left)))
+first-stale-requires c κs =
+    let at = c .before .before .before .before .before .before .before .before .before .before .before .before in
+    let is-open = c .before .before .before .before .before .before .before .before .before .is-open in
+    let busy = sym (is-open .ensures) ∙ not-false (is-open .result) (c .before .before .before .before .before .before .before .before .if1 .left) in
+    let started = at .pre .1 .started (at .args .d) (search needs) in
+    let below = room (at .pre .1) (search needs) busy in
+    (omega (arith, started), omega (arith, started, below))
 
 returns-4 : tie.Need-returns-4
 returns-4 c =
     let a = c .before .before .before .before .before .before .before .before .before .before .before .before .before .before .before .before .args in
-    rw (c .before .before .before .before .before .before .before .before .before .before .next .ensures)
-    (ended-fresh (a .b .sets) (a .b .number) (deskAt (a .b) (a .d)) (sym (c .before .before .before .before .before .before .before .before .before .is-empty .ensures) ∙ c .before .before .before .before .before .before .before .before .if2 .left) (omega arith) (c .before .before .before .first-stale .result) (c .before .before .before .first-stale .ensures) (omega arith)
-    ∙ end-granted _ _ (sym (c .before .before .before .before .before .before .before .before .before .before .before .before .before .is-open .ensures) ∙ not-false (c .before .before .before .before .before .before .before .before .before .before .before .before .before .is-open .result) (c .before .before .before .before .before .before .before .before .before .before .before .before .if1 .left)))
+    let is-open = c .before .before .before .before .before .before .before .before .before .before .before .before .before .is-open in
+    let busy = sym (is-open .ensures) ∙ not-false (is-open .result) (c .before .before .before .before .before .before .before .before .before .before .before .before .if1 .left) in
+    let some = sym (c .before .before .before .before .before .before .before .before .before .is-empty .ensures) ∙ c .before .before .before .before .before .before .before .before .if2 .left in
+    let stale = c .before .before .before .first-stale in
+    rw (c .before .before .before .before .before .before .before .before .before .before .next .ensures) (ended-fresh (a .b .sets) (a .b .number) (deskAt (a .b) (a .d)) some (omega arith) (stale .result) (stale .ensures) (omega arith) ∙ end-granted _ _ busy)
 
 place-requires : tie.Need-place-requires
 place-requires c κs = search needs
@@ -82,9 +95,12 @@ cast-item c = omega (arith, c .lowest .ensures, lowest-le (c .before .common .re
 returns-5 : tie.Need-returns-5
 returns-5 c =
     let a = c .before .before .before .before .before .before .before .before .before .before .before .before .before .before .before .before .before .before .before .before .args in
+    let is-open = c .before .before .before .before .before .before .before .before .before .before .before .before .before .before .before .before .before .is-open in
+    let busy = sym (is-open .ensures) ∙ not-false (is-open .result) (c .before .before .before .before .before .before .before .before .before .before .before .before .before .before .before .before .if1 .left) in
+    let some = sym (c .before .before .before .before .before .before .before .before .before .before .before .before .before .is-empty .ensures) ∙ c .before .before .before .before .before .before .before .before .before .before .before .before .if2 .left in
+    let stale = c .before .before .before .before .before .before .before .first-stale in
     rw (c .lowest .ensures, c .before .common .ensures, c .before .before .before .place .ensures)
-    (ended-stale (a .b .sets) (a .b .number) (deskAt (a .b) (a .d)) (sym (c .before .before .before .before .before .before .before .before .before .before .before .before .before .is-empty .ensures) ∙ c .before .before .before .before .before .before .before .before .before .before .before .before .if2 .left) (omega arith) (c .before .before .before .before .before .before .before .first-stale .result) (c .before .before .before .before .before .before .before .first-stale .ensures) (omega arith)
-    ∙ end-granted _ _ (sym (c .before .before .before .before .before .before .before .before .before .before .before .before .before .before .before .before .before .is-open .ensures) ∙ not-false (c .before .before .before .before .before .before .before .before .before .before .before .before .before .before .before .before .before .is-open .result) (c .before .before .before .before .before .before .before .before .before .before .before .before .before .before .before .before .if1 .left)))
+    (ended-stale (a .b .sets) (a .b .number) (deskAt (a .b) (a .d)) some (omega arith) (stale .result) (stale .ensures) (omega arith) ∙ end-granted _ _ busy)
 
 pub end-spec : {M : Type 1} → statement M
 end-spec =
