@@ -9,7 +9,8 @@ use Rattle.words.specs.Bytes.{Bytes}
 use Rattle.wire.specs.Table.{wrong}
 use Rattle.board.specs.Reached.{Eights, Reached}
 use Rattle.board.specs.declared.Board.{Board}
-use Rattle.hub.specs.Hub.{told, outcome, fourEach, openedBy, steppedBy}
+use Rattle.lent.specs.Pieces.{fourEach, inOne}
+use Rattle.hub.specs.Hub.{told, outcome, openedBy, steppedBy}
 
 -- the board that calls of hub_step leave, and the answers that they write, one after another
 abbrev pub left : Board → List (List ℕ) → Board
@@ -19,11 +20,6 @@ left b (q ∷ qs) = left (steppedBy b q .board) qs
 abbrev pub written : Board → List (List ℕ) → List ℕ
 written b [] = []
 written b (q ∷ qs) = steppedBy b q .bytes ++ written (steppedBy b q .board) qs
-
--- requests in one piece
-abbrev pub inOne : List (List ℕ) → List ℕ
-inOne [] = []
-inOne (q ∷ qs) = q ++ inOne qs
 
 -- a right table opens a board that hub_step may be given, whatever stood there; a wrong one takes none away; and hub_step leaves such a board
 abbrev pub OpenReaches : Type 0

@@ -1,16 +1,14 @@
 // The hub: a whole run over byte slices that a host lends, and one request at a time over a board that it keeps.
 mod host;
 mod lending;
-mod opening;
-mod pieces;
 mod run;
 
 use crate::host::open;
 use crate::host::tell;
 use crate::run::complete;
-use crate::run::minus;
-use crate::run::refusal;
 use board::Board;
+use lent::refusals::minus;
+use lent::refusals::refusal;
 ghost use mathlib.Core.Path.{_≡_};
 ghost use Rattle.board.specs.Reached.{Reached};
 ghost use Rattle.hub.specs.Hub.{Outcome, outcome, openedBy, steppedBy};

@@ -4,8 +4,8 @@ use borrow.Author.Needs.{needs}
 use lib.IntN.{ℤ}
 use mir.Syntax.{w64}
 use mir.Facts.{toZ-ofZ}
-use Rattle.hub.specs.Hub.{told}
-use Rattle.hub.proofs.Refusals.{refused-run, completed-run}
+use Rattle.hub.specs.Hub.{told, outcome}
+use Rattle.lent.proofs.Refused.{refused-run, completed-run}
 use Rattle.hub.proofs.hub_run.Statement.{statement}
 use Rattle.hub.proofs.hub_run.Tie as tie
 
@@ -16,10 +16,11 @@ minus-requires : tie.Need-minus-requires
 minus-requires c κs = search needs
 
 returns : tie.Need-returns
+unfolding outcome
 returns c =
     let a = c .before .before .before .before .before .before .before .args in
     ap (λ (z : ℤ). told z (a .answers .now) (a .values .now)) (toZ-ofZ {w = w64} (record { sfits = c .minus .ok }) ∙ c .minus .ensures)
-    ∙ refused-run (a .table .now) (a .requests .now) (a .answers .now) (a .values .now) _ (c .before .before .refusal .ensures) (c .before .if1 .taken)
+    ∙ refused-run (λ z. told z (a .answers .now) (a .values .now)) _ _ _ (c .before .before .refusal .ensures) (c .before .if1 .taken)
 
 complete-requires : tie.Need-complete-requires
 complete-requires c κs = search needs
@@ -31,11 +32,13 @@ same-length-2 : tie.Need-same-length-2
 same-length-2 c = search needs
 
 returns-2 : tie.Need-returns-2
+unfolding outcome
 returns-2 c =
     let ran = c .before .before .before .before in
     let chosen = ran .before .before .before in
+    let a = chosen .before .before .before .before .before .before .args in
     ap (λ (z : ℤ). told z (ran .complete .last .1 .1 .0) (ran .complete .last .1 .1 .1 .0)) (toZ-ofZ {w = w64} (record { sfits = ran .complete .ok }))
-    ∙ ran .complete .ensures ∙ completed-run _ _ _ _ (sym (chosen .if1 .left) ∙ chosen .before .refusal .ensures)
+    ∙ ran .complete .ensures ∙ completed-run (λ z. told z (a .answers .now) (a .values .now)) _ _ (sym (chosen .if1 .left) ∙ chosen .before .refusal .ensures)
 
 pub hub-run-spec : {M : Type 1} → statement M
 hub-run-spec =

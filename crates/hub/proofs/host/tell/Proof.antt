@@ -2,8 +2,9 @@
 use mathlib.Core.Path.{refl, _∙_}
 use lib.ListN.{replicate}
 use borrow.Author.Needs.{needs}
+use Rattle.board.specs.Rules.{next, reply}
 use Rattle.hub.specs.Hub.{steppedBy}
-use Rattle.hub.proofs.Served.{one-board, one-answer}
+use Rattle.lent.proofs.Served.{one-board, one-answer}
 use Rattle.hub.proofs.host.tell.Statement.{statement}
 use Rattle.hub.proofs.host.tell.Tie as tie
 
@@ -20,8 +21,8 @@ returns : tie.Need-returns
 unfolding steppedBy
 returns c =
     let a = c .before .before .before .before .args in
-    let board = c .before .serve .ensures .0 ∙ one-board (a .b) (a .t2) (search needs) in
-    let bytes = c .before .serve .ensures .1 ∙ one-answer (a .b) (a .t2) (search needs) (replicate 12 0) refl in
+    let board = c .before .serve .ensures .0 ∙ one-board next reply (a .b) (a .t2) (search needs) in
+    let bytes = c .before .serve .ensures .1 ∙ one-answer next reply (a .b) (a .t2) (search needs) (replicate 12 0) refl in
     λ i. record { board = board i; bytes = bytes i }
 
 pub tell-spec : {M : Type 1} → statement M

@@ -12,13 +12,14 @@ use mir.Facts.{toZ-pos}
 use Rattle.runs.specs.Runs.{after}
 use Rattle.words.specs.Bytes.{Bytes}
 use Rattle.wire.proofs.Rows.{right-long}
-use Rattle.board.specs.Rules.{next}
+use Rattle.board.specs.Rules.{next, reply}
 use Rattle.board.specs.Opening.{opening}
 use Rattle.board.specs.declared.Board.{Board}
 use Rattle.board.proofs.Reached.{reached-opening}
-use Rattle.hub.specs.Hub.{told, requestsIn, served, fourEach}
-use Rattle.hub.proofs.Refusals.{accepted}
-use Rattle.hub.proofs.Served.{requestsOf-length}
+use Rattle.lent.specs.Pieces.{eightsIn, served, fourEach}
+use Rattle.hub.specs.Hub.{told}
+use Rattle.lent.proofs.Refused.{accepted}
+use Rattle.lent.proofs.Served.{eightsOf-length}
 use Rattle.hub.proofs.run.complete.Statement.{statement}
 use Rattle.hub.proofs.run.complete.Tie as tie
 
@@ -56,13 +57,13 @@ returns c =
     let start = at-opening .before .before .before .before .before in
     let a = start .args in
     let q = a .requests .now in
-    let n : length (requestsIn q) ≡ length q / 8 = requestsOf-length q (length q / 8) in
+    let n : length (eightsIn q) ≡ length q / 8 = eightsOf-length q (length q / 8) in
     let count : toZ w64 (length q / 8) ≡ pos (length q / 8) = toZ-pos w64 (omega (arith, accepted _ _ _ _ (start .pre) .most)) in
     rw (n, count)
     (λ i. told (pos (length q / 8))
-    ((at-serve .serve .ensures .1 ∙ ap (λ (b : Board). served b (requestsIn q) ++ drop (12 * (length q / 8)) (a .answers .now)) (at-opening .opening .ensures)) i)
+    ((at-serve .serve .ensures .1 ∙ ap (λ (b : Board). served next reply b (eightsIn q) ++ drop (12 * (length q / 8)) (a .answers .now)) (at-opening .opening .ensures)) i)
     ((at-values .put-values .ensures ∙ ap (λ (b : Board). fourEach (b .values) ++ drop 256 (a .values .now))
-    (at-serve .serve .ensures .0 ∙ ap (λ (b : Board). after next b (requestsIn q)) (at-opening .opening .ensures))) i))
+    (at-serve .serve .ensures .0 ∙ ap (λ (b : Board). after next b (eightsIn q)) (at-opening .opening .ensures))) i))
 
 pub complete-spec : {M : Type 1} → statement M
 complete-spec =

@@ -13,17 +13,17 @@ use Rattle.board.specs.Rules.{step, next, reply}
 use Rattle.board.proofs.Reached.{reached-step}
 use Rattle.board.specs.declared.Board.{Board}
 use Rattle.board.specs.declared.Stepped.{Stepped}
-use Rattle.hub.specs.Hub.{requestsOf, twelveEach, served}
-use Rattle.hub.proofs.Buffers.{turn}
-use Rattle.hub.proofs.Served.{requestAt, encode-length, next-board, next-answer, answers-length, part-bytes}
+use Rattle.lent.specs.Pieces.{eightsOf, twelveEach, served}
+use Rattle.lent.proofs.Buffers.{turn}
+use Rattle.lent.proofs.Served.{eightAt, encode-length, next-board, next-answer, answers-length, part-bytes}
 use Rattle.hub.proofs.run.serve.Statement.{statement}
 use Rattle.hub.proofs.run.serve.Tie as tie
 
 abbrev Inv-loop : tie.InvT-loop
 Inv-loop requests answers₀ count last₀ k₀ answers last k =
     (k ≤ count)
-    × (last .board ≡ after next (last₀ .board) (requestsOf requests k))
-    × (answers ≡ served (last₀ .board) (requestsOf requests k) ++ drop (12 * k) answers₀)
+    × (last .board ≡ after next (last₀ .board) (eightsOf requests k))
+    × (answers ≡ served next reply (last₀ .board) (eightsOf requests k) ++ drop (12 * k) answers₀)
     × (length answers ≡ length answers₀)
     × Reached (last .board)
 
@@ -31,7 +31,7 @@ abbrev μ-loop : tie.MeasureT-loop
 μ-loop requests answers₀ count last₀ k₀ answers last k = count - k
 
 loop-holds : tie.Need-loop-holds Inv-loop μ-loop
-unfolding requestsOf twelveEach
+unfolding eightsOf twelveEach
 loop-holds c = (omega arith, refl, refl, refl, c .before .before .pre .0)
 
 mul-eight : tie.Need-mul-eight Inv-loop μ-loop
@@ -75,15 +75,15 @@ loop-again c =
     let b = a .board in
     let s = a .requests .now in
     let k = l .loop .k in
-    let q = requestAt s k in
+    let q = eightAt s k in
     let asked : at-eight .eight .result ≡ q = at-eight .eight .ensures in
     let stepped : at-next .next .result ≡ step (l .loop .last .board) q = at-next .next .ensures ∙ ap (step (l .loop .last .board)) asked in
-    let followed : at-next .next .result ≡ step (after next b (requestsOf s k)) q = stepped ∙ ap (λ (d : Board). step d q) (l .loop .inv .1) in
-    let told : at-encode .encode .result ≡ encode (byte q 1) (reply (after next b (requestsOf s k)) q) = at-encode .encode .ensures ∙ (λ i. encode (byte (asked i) 1) (followed i .answer)) in (
+    let followed : at-next .next .result ≡ step (after next b (eightsOf s k)) q = stepped ∙ ap (λ (d : Board). step d q) (l .loop .inv .1) in
+    let told : at-encode .encode .result ≡ encode (byte q 1) (reply (after next b (eightsOf s k)) q) = at-encode .encode .ensures ∙ (λ i. encode (byte (asked i) 1) (followed i .answer)) in (
       omega arith,
-      ap (λ (r : Stepped). r .board) followed ∙ sym (next-board b s k),
-      turn (λ n. served b (requestsOf s n)) 12 k (a .answers .now) (l .loop .answers) (at-put .put .last .0) (at-encode .encode .result)
-          (answers-length b s k) (next-answer b s k ∙ ap (λ (r : List ℕ). served b (requestsOf s k) ++ r) (sym told)) (ap length told ∙ encode-length _ _) (l .loop .inv .2) (at-put .put .ensures),
+      ap (λ (r : Stepped). r .board) followed ∙ sym (next-board next reply b s k),
+      turn (λ n. served next reply b (eightsOf s n)) 12 k (a .answers .now) (l .loop .answers) (at-put .put .last .0) (at-encode .encode .result)
+          (answers-length next reply b s k) (next-answer next reply b s k ∙ ap (λ (r : List ℕ). served next reply b (eightsOf s k) ++ r) (sym told)) (ap length told ∙ encode-length _ _) (l .loop .inv .2) (at-put .put .ensures),
       at-put .put .kept .0 ∙ l .loop .inv .3,
       rw stepped (reached-step (l .loop .inv .4) q (part-bytes s (8 * k) 8 (λ i. omega (arith, l .before .before .shared-slice-known .given i)) (omega arith))),
     )

@@ -1,17 +1,13 @@
 -- A run's checks in their order: the first that fails gives its number. What follows of a run by that number.
-use mathlib.Core.Path.{_≡_, refl, sym, _∙_}
+use mathlib.Core.Path.{_≡_, sym}
 use mathlib.Core.Bool.{true, false}
 use mathlib.Core.List.{List}
-use Prim.Native.Nat.{ℕ, zero, suc, _*_, _/_, _%_, _≤_, _<_}
+use Prim.Native.Nat.{ℕ, _*_, _/_, _%_, _≤_, _<_}
 use borrow.Author.Tests.{ne-eqb, lt-ltb, le-ltb, ltb-false}
 use lib.IntN.{ℤ, pos, negℤ}
-use lib.Signed.{ltZ}
-use lib.ListN.{length}
-use Rattle.items.proofs.Tests.{by-equal, clash}
 use Rattle.wire.specs.Table.{wrong}
 use Rattle.wire.proofs.Checks.{all-passed}
-use Rattle.board.specs.Opening.{opening}
-use Rattle.hub.specs.Hub.{told, requestsIn, runChecks, refusal, completed, outcome}
+use Rattle.lent.specs.Refusals.{runChecks, refusal, unless}
 
 module _ (t : List ℕ) (q a v : ℕ) where
   pub refuses-10 : wrong t ≡ true → 10 ≡ refusal t q a v
@@ -60,25 +56,10 @@ accepted t q a v e =
       wide = ltb-false v 256 (p .1 .1 .1 .1 .0);
     }
 
--- what a run leaves
-module _ (t q a v : List ℕ) where
-  pub refused-run : (n : ℕ) → n ≡ refusal t (length q) (length a) (length v) → (n ≡ 0 → ⊥) → told (negℤ (pos n)) a v ≡ outcome t q a v
-  unfolding outcome
+-- what a run leaves by the number of its refusal
+module _ {O : Type 0} (refused : ℤ → O) (left : O) (m : ℕ) where
+  pub refused-run : (n : ℕ) → n ≡ m → (n ≡ 0 → ⊥) → refused (negℤ (pos n)) ≡ unless m refused left
   refused-run n e h = rw (← e, ne-eqb n 0 h)
 
-  pub completed-run : 0 ≡ refusal t (length q) (length a) (length v) → completed (opening t) (requestsIn q) a v ≡ outcome t q a v
-  unfolding outcome
+  pub completed-run : 0 ≡ m → left ≡ unless m refused left
   completed-run e = rw (← e)
-
--- a run that returns no negative number was not refused
-negative : (n : ℕ) → (n ≡ 0 → ⊥) → ltZ (negℤ (pos n)) (pos 0) ≡ true
-negative zero h = absurd (h refl)
-negative (suc n) h = refl
-
-pub answered : (t q a v : List ℕ) {a′ v′ : List ℕ} (z : ℤ) → told z a′ v′ ≡ outcome t q a v → ltZ z (pos 0) ≡ false → Accepted t (length q) (length a) (length v)
-answered t q a v {a′} {v′} z e h =
-    let n = refusal t (length q) (length a) (length v) in
-    by-equal n 0 (λ none. accepted t (length q) (length a) (length v) (sym none))
-    (λ some. let refused : told z a′ v′ ≡ told (negℤ (pos n)) a v = e ∙ sym (refused-run t q a v n refl some) in
-    let same : z ≡ negℤ (pos n) = cc in
-    clash (rw same (negative n some)) h)

@@ -4,9 +4,9 @@ use mathlib.Core.Path.{_≡_, ap, _∙_}
 use Prim.Native.Nat.{ℕ, _+_, _-_}
 use native.Mathlib.Omega.{arith}
 use lib.ListN.{take, drop, replicate, length-take, length-drop}
-use Rattle.hub.proofs.Buffers.{paste-all}
-use Rattle.hub.proofs.pieces.eight.Statement.{statement}
-use Rattle.hub.proofs.pieces.eight.Tie as tie
+use Rattle.lent.proofs.Buffers.{paste-all}
+use Rattle.lent.proofs.pieces.eight.Statement.{statement}
+use Rattle.lent.proofs.pieces.eight.Tie as tie
 
 slice-aggregate-put : tie.Need-slice-aggregate-put
 slice-aggregate-put c = search needs
