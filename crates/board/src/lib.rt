@@ -1,6 +1,6 @@
 // The board. `answer` decides and changes nothing; `follow` changes and decides nothing.
-mod answering;
-mod following;
+pub mod answering;
+pub mod following;
 mod validation;
 
 use crate::answering::answer;

@@ -17,7 +17,7 @@ paste-all d s e =
     ap (λ (l : List ℕ). l ++ drop (0 + length s) d) (take-length s) ∙ ap (λ (l : List ℕ). s ++ l) (drop-of-length-le d h) ∙ append-nil s
 
 -- f is written at the front, and the rest is d's; then one more piece s
-grows : (f d s : List ℕ) (n : ℕ) → length f ≡ n → paste (f ++ drop n d) n s (length s) ≡ (f ++ s) ++ drop (n + length s) d
+pub grows : (f d s : List ℕ) (n : ℕ) → length f ≡ n → paste (f ++ drop n d) n s (length s) ≡ (f ++ s) ++ drop (n + length s) d
 grows f d s n e =
     ap (λ (l : List ℕ). l ++ take (length s) s ++ drop (n + length s) (f ++ drop n d)) (take-at f (drop n d) n e)
     ∙ ap (λ (l : List ℕ). f ++ l ++ drop (n + length s) (f ++ drop n d)) (take-length s)
