@@ -70,10 +70,8 @@ pub fn tell(s: Journaled, request: [u8; 8], journal: &mut [u8]) -> Told
     ensures { λ _. ⌜ now (journal .exit) ≡ journalAfter s (now (journal .entry)) request ⌝ }
 {
     let last = step(s, request, journal);
+    let board = last.board;
     let answer = last.answer;
     let bytes = encode(request[1], answer);
-    Told {
-        board: last.board,
-        bytes,
-    }
+    Told { board, bytes }
 }

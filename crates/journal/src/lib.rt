@@ -17,7 +17,7 @@ use wire::requests::desk_of;
 ghost use mathlib.Core.Path.{_≡_};
 ghost use Prim.Native.Nat.{_+_, _≤_};
 ghost use lib.ListN.{length};
-ghost use Rattle.records.specs.Records.{sizeOf, over};
+ghost use Rattle.records.specs.Records.{sizeOf, room, over};
 ghost use Rattle.journal.specs.Journal.{limited, added, step, journalAfter};
 ghost use Rattle.journal.specs.Reached.{Reached};
 
@@ -52,7 +52,7 @@ fn limited(answer: Answer, used: usize, written: Items, room: usize) -> Answer
 
 // Puts the records of a commit into the journal; the bytes used then.
 fn recorded(journal: &mut [u8], used: usize, k: Desk, answer: Answer) -> usize
-    requires { ⌜ used + length (added k answer) ≤ length (now journal) ⌝ }
+    requires { ⌜ limited (used + sizeOf (k .written)) (room (length (now journal))) answer ≡ answer ⌝ }
     ensures { λ r. ⌜ r ≡ used + length (added k answer) ⌝ }
     ensures { λ _. ⌜ now (journal .exit) ≡ over (now (journal .entry)) used (added k answer) ⌝ }
 {
