@@ -1,4 +1,4 @@
--- What the walks share: the types of a request's and of an answer's bytes, and the machine values of bytes, of a board and of an answer.
+-- What the walks share: the types of a request's and of an answer's bytes, and the machine values of bytes, of a board, of one with its journal, and of an answer.
 use mathlib.Core.List.{List}
 use Prim.Native.Nat.{ℕ}
 use mir.Syntax.{w8}
@@ -13,6 +13,9 @@ use Rattle.board.specs.declared.Board.{Board}
 use Rattle.wire.specs.declared.Answer.{Answer}
 use Rattle.board.proofs.Board as B
 use Rattle.board.proofs.Board.Laws as B′
+use Rattle.journal.specs.declared.Journaled.{Journaled}
+use Rattle.journal.proofs.Journaled as J
+use Rattle.journal.proofs.Journaled.Laws as J′
 use Rattle.wire.proofs.Answer as N
 use Rattle.wire.proofs.Answer.Laws as N′
 
@@ -30,3 +33,6 @@ board-vals = LL.vals B.the-type B′.the-laws
 
 abbrev pub answer-vals : Answer → List Val
 answer-vals = EL.vals N.the-type N′.the-laws
+
+abbrev pub journaled-vals : Journaled → List Val
+journaled-vals = LL.vals J.the-type J′.the-laws

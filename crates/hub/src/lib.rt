@@ -1,4 +1,5 @@
-// The hub: a whole run over byte slices that a host lends, and one request at a time over a board that it keeps.
+// The hub: a whole run over byte slices that a host lends, and one request at a time over a board that it keeps; the same with a journal
+// of the commits, and a restart from it.
 mod host;
 mod lending;
 mod run;
@@ -7,10 +8,15 @@ use crate::host::open;
 use crate::host::tell;
 use crate::run::complete;
 use board::Board;
+use journal::Journaled;
 use lent::refusals::minus;
 use lent::refusals::refusal;
 ghost use mathlib.Core.Path.{_≡_};
+ghost use lib.ListN.{length};
 ghost use Rattle.board.specs.Reached.{Reached};
+ghost use Rattle.journal.specs.Journal.{journalAfter};
+ghost use Rattle.journal.specs.Reached as Kept;
+ghost use Rattle.journal.specs.Run as Journal;
 ghost use Rattle.hub.specs.Hub.{Outcome, outcome, openedBy, steppedBy};
 
 // A whole run: the count of answers, or minus the number of the refusal. It supposes nothing.
@@ -47,6 +53,50 @@ pub extern "C" fn hub_step(board: &mut Board, request: &[u8; 8], answer: &mut [u
     ensures { λ _. ⌜ (now (board .exit) ≡ steppedBy (now (board .entry)) (now (request .entry)) .board) × (now (answer .exit) ≡ steppedBy (now (board .entry)) (now (request .entry)) .bytes) ⌝ }
 {
     let t = tell(*board, *request);
+    *board = t.board;
+    *answer = t.bytes;
+}
+
+// A whole run with a journal: as hub_run, and each commit's records stand in the journal. A refused run leaves the journal as it is.
+#[no_mangle]
+pub extern "C" fn hub_run_journal(
+    table: &[u8],
+    requests: &[u8],
+    answers: &mut [u8],
+    values: &mut [u8],
+    journal: &mut [u8],
+) -> i64
+    ensures { λ r. ⌜ Journal.told r (now (answers .exit)) (now (values .exit)) (now (journal .exit)) ≡ Journal.outcome (now (table .entry)) (now (requests .entry)) (now (answers .entry)) (now (values .entry)) (now (journal .entry)) ⌝ }
+{
+    let refused = refusal(table, requests.len(), answers.len(), values.len());
+    if refused != 0 {
+        return minus(refused);
+    }
+    journal::run::complete(table, requests, answers, values, journal)
+}
+
+// A fresh board of the table with an empty journal, and 0; of a wrong table -10, and both stay as they are.
+#[no_mangle]
+pub extern "C" fn hub_open_journal(board: &mut Journaled, table: &[u8], journal: &mut [u8]) -> i64
+    ensures { λ r. ⌜ (r ≡ Journal.openedBy (now (board .entry)) (now (table .entry)) .code) × (now (board .exit) ≡ Journal.openedBy (now (board .entry)) (now (table .entry)) .board) × (now (journal .exit) ≡ Journal.journalOpened (now (table .entry)) (now (journal .entry))) ⌝ }
+{
+    let o = journal::host::open(*board, table, journal);
+    *board = o.board;
+    o.code
+}
+
+// One request of any 8 bytes, on a board that an opening and such calls have left, over any journal.
+#[no_mangle]
+pub extern "C" fn hub_step_journal(
+    board: &mut Journaled,
+    request: &[u8; 8],
+    answer: &mut [u8; 12],
+    journal: &mut [u8],
+)
+    requires { ⌜ Kept.Reached (now board) ⌝ }
+    ensures { λ _. ⌜ (now (board .exit) ≡ Journal.steppedBy (now (board .entry)) (length (now (journal .entry))) (now (request .entry)) .board) × (now (answer .exit) ≡ Journal.steppedBy (now (board .entry)) (length (now (journal .entry))) (now (request .entry)) .bytes) × (now (journal .exit) ≡ journalAfter (now (board .entry)) (now (journal .entry)) (now (request .entry))) ⌝ }
+{
+    let t = journal::host::tell(*board, *request, journal);
     *board = t.board;
     *answer = t.bytes;
 }

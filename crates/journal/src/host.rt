@@ -51,8 +51,7 @@ pub fn fresh(table: &[u8], journal: &mut [u8]) -> Journaled
 }
 
 pub fn open(s: Journaled, table: &[u8], journal: &mut [u8]) -> Opened
-    ensures { λ r. ⌜ r ≡ openedBy s (now (table .entry)) ⌝ }
-    ensures { λ _. ⌜ now (journal .exit) ≡ journalOpened (now (table .entry)) (now (journal .entry)) ⌝ }
+    ensures { λ r. ⌜ (r ≡ openedBy s (now (table .entry))) × (now (journal .exit) ≡ journalOpened (now (table .entry)) (now (journal .entry))) ⌝ }
 {
     if wrong(table) {
         return Opened {
@@ -66,8 +65,7 @@ pub fn open(s: Journaled, table: &[u8], journal: &mut [u8]) -> Opened
 
 pub fn tell(s: Journaled, request: [u8; 8], journal: &mut [u8]) -> Told
     requires { ⌜ Reached s ⌝ }
-    ensures { λ r. ⌜ r ≡ steppedBy s (length (now (journal .entry))) request ⌝ }
-    ensures { λ _. ⌜ now (journal .exit) ≡ journalAfter s (now (journal .entry)) request ⌝ }
+    ensures { λ r. ⌜ (r ≡ steppedBy s (length (now (journal .entry))) request) × (now (journal .exit) ≡ journalAfter s (now (journal .entry)) request) ⌝ }
 {
     let last = step(s, request, journal);
     let board = last.board;
