@@ -5,12 +5,14 @@ use mathlib.Core.Bool.{Bool, true, false, cond}
 use mathlib.Core.List.{List, [], _∷_, _++_, append-assoc}
 use native.Mathlib.Omega.{arith}
 use native.Mathlib.Numerals.{add-one}
+use borrow.Author.Tests.{ltb-true, ltb-false}
+use lib.Dec.{ltb}
 use lib.ListN.{length, length-append}
 use Rattle.items.specs.Items.{has}
 use Rattle.items.specs.declared.Items.{Items}
-use Rattle.items.proofs.Tests.{by-test, by-equal}
+use Rattle.items.proofs.Tests.{by-test, by-cond, by-equal}
 use Rattle.lent.specs.Pieces.{inOne}
-use Rattle.records.specs.Records.{countBelow, itemRecord, itemRecords, recordOf, entry, sizeOf}
+use Rattle.records.specs.Records.{countBelow, itemRecord, itemRecords, recordOf, entry, sizeOf, room}
 
 -- pieces in one, one after another
 pub inOne-append : (ps qs : List (List ℕ)) → inOne (ps ++ qs) ≡ inOne ps ++ inOne qs
@@ -48,3 +50,12 @@ module _ (w : Items) where
 
   pub entry-length : (f : ℕ → ℕ) (n : ℕ) → length (inOne (entry w f n)) ≡ sizeOf w
   entry-length f n = rw (inOne-append, length-append) (omega (arith, items-length f n 64))
+
+-- ---- the buffer that holds them
+
+module _ (n : ℕ) where
+  pub room-most : room n ≤ 65536
+  room-most = by-cond (λ (m : ℕ). m ≤ 65536) (ltb 65536 n) (λ t. omega arith) (λ f. ltb-false 65536 n f)
+
+  pub room-within : room n ≤ n
+  room-within = by-cond (λ (m : ℕ). m ≤ n) (ltb 65536 n) (λ t. omega (arith, ltb-true 65536 n t)) (λ f. omega arith)

@@ -2,7 +2,7 @@
 use Prim.Native.Nat.{ℕ, zero, suc, _+_, _*_, _/_}
 use mathlib.Core.Bool.{Bool, true, false, cond, _&&_}
 use mathlib.Core.List.{List}
-use lib.Dec.{eqb, ltb, leb}
+use lib.Dec.{eqb, leb}
 use lib.IntN.{ℤ, pos, negℤ}
 use lib.ListN.{getD, set, length}
 use Rattle.runs.specs.Runs.{after}
@@ -38,20 +38,19 @@ fitsClosing at r = eqb (byte r 0) 2 && eqb (byte r 1) 0 && eqb (numberIn r) (at 
 
 -- ---- reading, record by record
 
--- nothing yet
+-- nothing yet, with these values
 abbrev pub unread : List ℕ → Reading
-unread t =
-    let values = opening t .values in
-    record { commits = 0; whole = values; items = 0; next = 0; values = values; stopped = false }
+unread values = record { commits = 0; whole = values; items = 0; next = 0; values = values; stopped = false }
 
-abbrev pub itemRead : Reading → List ℕ → Reading
-itemRead at r =
+-- item i with value v
+abbrev pub itemRead : Reading → ℕ → ℕ → Reading
+itemRead at i v =
     record {
       commits = at .commits;
       whole = at .whole;
       items = at .items + 1;
-      next = byte r 1 + 1;
-      values = set (at .values) (byte r 1) (valueIn r);
+      next = i + 1;
+      values = set (at .values) i v;
       stopped = at .stopped;
     }
 
@@ -66,13 +65,13 @@ halted at =
 unfoldable pub read : List ℕ → Reading → List ℕ → Reading
 read t at r =
     cond (at .stopped) at
-    (cond (fitsItem t at r) (itemRead at r)
+    (cond (fitsItem t at r) (itemRead at (byte r 1) (valueIn r))
     (cond (fitsClosing at r) (closed at)
     (halted at)))
 
 -- the whole records of a journal, as far as it is used
 unfoldable pub restored : List ℕ → List ℕ → Reading
-restored t j = after (read t) (unread t) (eightsOf j (room (length j) / 8))
+restored t j = after (read t) (unread (opening t .values)) (eightsOf j (room (length j) / 8))
 
 -- ---- the table after it
 

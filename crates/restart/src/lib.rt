@@ -6,7 +6,6 @@ use lent::pieces::put;
 use wire::table::wrong;
 use words::four_bytes;
 ghost use mathlib.Core.Path.{_≡_};
-ghost use Prim.Native.Nat.{_≤_};
 ghost use lib.ListN.{length};
 ghost use Rattle.restart.specs.Restart.{Restarted, withValues, restarted};
 

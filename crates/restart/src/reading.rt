@@ -6,10 +6,10 @@ use words::number;
 use words::number_at;
 ghost use mathlib.Core.Path.{_≡_};
 ghost use mathlib.Core.Bool.{false};
-ghost use Prim.Native.Nat.{_<_, _≤_};
+ghost use Prim.Native.Nat.{_<_};
 ghost use lib.ListN.{length};
 ghost use Rattle.wire.specs.Table.{wrong};
-ghost use Rattle.restart.specs.Restart.{numberIn, fitsItem, fitsClosing, read, restored};
+ghost use Rattle.restart.specs.Restart.{fitsItem, fitsClosing, read, restored};
 
 // The whole commits so far and the values after them; of the commit that is being read, how many items, the lowest that may come next,
 // and the values with these; and whether the reading has stopped.
@@ -23,14 +23,14 @@ pub struct Reading {
 }
 
 // Byte 0 is 1, the item is below 64 and above the one before it, the number follows the last one closed, and the value is within its limits.
-fn fits_item(table: &[u8], at: Reading, record: [u8; 8]) -> bool
+fn fits_item(table: &[u8], at: Reading, bytes: [u8; 8]) -> bool
     requires { ⌜ length (now table) ≡ 1024 ⌝ }
     requires { ⌜ at .commits < 65536 ⌝ }
-    ensures { λ r. ⌜ r ≡ fitsItem (now (table .entry)) at record ⌝ }
+    ensures { λ r. ⌜ r ≡ fitsItem (now (table .entry)) at bytes ⌝ }
 {
-    let item = record[1];
-    let value = number(record[4], record[5], record[6], record[7]);
-    if record[0] != 1 {
+    let item = bytes[1];
+    let value = number(bytes[4], bytes[5], bytes[6], bytes[7]);
+    if bytes[0] != 1 {
         return false;
     }
     if item < at.next {
@@ -39,7 +39,7 @@ fn fits_item(table: &[u8], at: Reading, record: [u8; 8]) -> bool
     if item > 63 {
         return false;
     }
-    if number(record[2], record[3], 0, 0) != at.commits + 1 {
+    if number(bytes[2], bytes[3], 0, 0) != at.commits + 1 {
         return false;
     }
     let row = 16 * (item as usize);
@@ -50,42 +50,43 @@ fn fits_item(table: &[u8], at: Reading, record: [u8; 8]) -> bool
 }
 
 // Byte 0 is 2, byte 1 is 0, the number follows the last one closed, and the count is that of the items read.
-fn fits_closing(at: Reading, record: [u8; 8]) -> bool
+fn fits_closing(at: Reading, bytes: [u8; 8]) -> bool
     requires { ⌜ at .commits < 65536 ⌝ }
-    ensures { λ r. ⌜ r ≡ fitsClosing at record ⌝ }
+    ensures { λ r. ⌜ r ≡ fitsClosing at bytes ⌝ }
 {
-    if record[0] != 2 {
+    if bytes[0] != 2 {
         return false;
     }
-    if record[1] != 0 {
+    if bytes[1] != 0 {
         return false;
     }
-    if number(record[2], record[3], 0, 0) != at.commits + 1 {
+    if number(bytes[2], bytes[3], 0, 0) != at.commits + 1 {
         return false;
     }
-    number(record[4], record[5], record[6], record[7]) == at.items
+    number(bytes[4], bytes[5], bytes[6], bytes[7]) == at.items
 }
 
 // One record more.
-fn read(table: &[u8], at: Reading, record: [u8; 8]) -> Reading
+fn read(table: &[u8], at: Reading, bytes: [u8; 8]) -> Reading
     requires { ⌜ length (now table) ≡ 1024 ⌝ }
     requires { ⌜ at .commits < 65536 ⌝ }
     requires { ⌜ at .items < 65536 ⌝ }
-    ensures { λ r. ⌜ r ≡ read (now (table .entry)) at record ⌝ }
+    ensures { λ r. ⌜ r ≡ read (now (table .entry)) at bytes ⌝ }
 {
     if at.stopped {
         return at;
     }
     let mut after = at;
-    if fits_item(table, at, record) {
-        let item = record[1];
-        after.values[item as usize] = number(record[4], record[5], record[6], record[7]);
+    if fits_item(table, at, bytes) {
+        let item = bytes[1];
+        after.values[item as usize] = number(bytes[4], bytes[5], bytes[6], bytes[7]);
         after.items = at.items + 1;
         after.next = item + 1;
         return after;
     }
-    if fits_closing(at, record) {
-        after.whole = at.values;
+    if fits_closing(at, bytes) {
+        let values = at.values;
+        after.whole = values;
         after.commits = at.commits + 1;
         after.items = 0;
         after.next = 0;
@@ -113,8 +114,8 @@ pub fn restored(table: &[u8], journal: &[u8]) -> Reading
     let count = room(journal.len()) / 8;
     let mut k = 0;
     while k < count {
-        let record = eight(journal, 8 * k);
-        at = read(table, at, record);
+        let bytes = eight(journal, 8 * k);
+        at = read(table, at, bytes);
         k += 1;
     }
     at

@@ -1,0 +1,52 @@
+-- One record more, by its form; the counts grow by one at most.
+use mathlib.Core.Path.{_≡_}
+use mathlib.Core.Bool.{true, false}
+use mathlib.Core.List.{List}
+use Prim.Native.Nat.{ℕ, _+_, _≤_}
+use native.Mathlib.Omega.{arith}
+use native.Mathlib.Numerals.{add-one}
+use Rattle.items.proofs.Tests.{by-cond}
+use Rattle.runs.specs.Runs.{after}
+use Rattle.runs.proofs.Grown.{after-more}
+use Rattle.lent.specs.Pieces.{eightsOf}
+use Rattle.lent.proofs.Served.{eightAt}
+use Rattle.words.specs.Bytes.{byte}
+use Rattle.restart.specs.Restart.{valueIn, fitsItem, fitsClosing, itemRead, closed, halted, read}
+use Rattle.restart.specs.declared.reading.Reading.{Reading}
+
+module _ (t : List ℕ) (at : Reading) (r : List ℕ) where
+  pub stays : at .stopped ≡ true → at ≡ read t at r
+  unfolding read
+  stays h = rw h
+
+  module _ (going : at .stopped ≡ false) where
+    pub takes : fitsItem t at r ≡ true → (v : ℕ) → v ≡ valueIn r → itemRead at (byte r 1) v ≡ read t at r
+    unfolding read
+    takes h v p = rw (h, p, going)
+
+    module _ (other : fitsItem t at r ≡ false) where
+      pub closes : fitsClosing at r ≡ true → closed at ≡ read t at r
+      unfolding read
+      closes h = rw (other, h, going)
+
+      pub halts : fitsClosing at r ≡ false → halted at ≡ read t at r
+      unfolding read
+      halts h = rw (other, h, going)
+
+  -- a fact of every reading that one record more can leave
+  pub by-form : (P : Reading → Type 0) → P at → (fitsItem t at r ≡ true → P (itemRead at (byte r 1) (valueIn r))) → P (closed at) → P (halted at) → P (read t at r)
+  unfolding read
+  by-form P old item closing none =
+      by-cond P (at .stopped) (λ e. old)
+      (λ e. by-cond P (fitsItem t at r) item (λ o. by-cond P (fitsClosing at r) (λ h. closing) (λ h. none)))
+
+  pub commits-most : read t at r .commits ≤ at .commits + 1
+  commits-most = by-form (λ s. s .commits ≤ at .commits + 1) (omega arith) (λ h. omega arith) (omega arith) (omega arith)
+
+  pub items-most : read t at r .items ≤ at .items + 1
+  items-most = by-form (λ s. s .items ≤ at .items + 1) (omega arith) (λ h. omega arith) (omega arith) (omega arith)
+
+-- one more record at the end of a reading
+pub one-more : (t j : List ℕ) (at : Reading) (k : ℕ) → after (read t) at (eightsOf j (k + 1)) ≡ read t (after (read t) at (eightsOf j k)) (eightAt j k)
+unfolding eightsOf
+one-more t j at k = rw add-one (after-more (read t) at (eightsOf j k) (eightAt j k))
