@@ -1,1 +1,2 @@
 pub mod Restart
+pub mod Restarts

@@ -1,8 +1,9 @@
--- A number below 2 to the 32 is the one that its four bytes give.
-use Prim.Native.Nat.{ℕ, _+_, _*_, _/_, _%_, _<_}
+-- The four bytes of a number: each is a byte, and a number below 2 to the 32 is the one that they give.
+use Prim.Native.Nat.{ℕ, zero, suc, _+_, _*_, _/_, _%_, _<_}
 use mathlib.Core.Path.{_≡_, ap, sym, _∙_}
 use native.Mathlib.Nat.{div-div-eq-div-mul, mod-eq-of-lt}
 use native.Mathlib.Omega.{arith}
+use lib.ListN.{getD}
 use Rattle.words.specs.Bytes.{wordAt, fourBytes}
 
 split : (n : ℕ) → n ≡ n % 256 + 256 * (n / 256)
@@ -22,3 +23,11 @@ four-tell n h =
     rw (two, three)
     (whole n (n % 256) (n / 256) (n / 256 % 256) (n / 256 / 256) (n / 256 / 256 % 256) (n / 256 / 256 / 256) (n / 256 / 256 / 256 % 256)
     (split n) (split (n / 256)) (split (n / 256 / 256)) (mod-eq-of-lt (last-byte n h)))
+
+-- each of the four, and what is read past them
+pub four-small : (n k : ℕ) → getD (fourBytes n) k 0 < 256
+four-small n zero = omega arith
+four-small n (suc zero) = omega arith
+four-small n (suc (suc zero)) = omega arith
+four-small n (suc (suc (suc zero))) = omega arith
+four-small n (suc (suc (suc (suc k)))) = omega arith
