@@ -4,6 +4,7 @@ use mathlib.Core.Bool.{true, false}
 use mathlib.Core.List.{List}
 use Prim.Native.Nat.{ℕ, _+_, _≤_}
 use native.Mathlib.Omega.{arith}
+use lib.ListN.{set}
 use native.Mathlib.Numerals.{add-one}
 use Rattle.items.proofs.Tests.{by-cond}
 use Rattle.runs.specs.Runs.{after}
@@ -20,14 +21,26 @@ module _ (t : List ℕ) (at : Reading) (r : List ℕ) where
   stays h = rw h
 
   module _ (going : at .stopped ≡ false) where
-    pub takes : fitsItem t at r ≡ true → (v : ℕ) → v ≡ valueIn r → itemRead at (byte r 1) v ≡ read t at r
+    -- with its value and the lowest item that may come next
+    pub takes : fitsItem t at r ≡ true → (v n : ℕ) → v ≡ valueIn r → n ≡ byte r 1 + 1
+        → record {
+          commits = at .commits;
+          whole = at .whole;
+          items = at .items + 1;
+          next = n;
+          values = set (at .values) (byte r 1) v;
+          stopped = at .stopped;
+        }
+        ≡ read t at r
     unfolding read
-    takes h v p = rw (h, p, going)
+    takes h v n p q = rw (h, p, q, going)
 
     module _ (other : fitsItem t at r ≡ false) where
-      pub closes : fitsClosing at r ≡ true → closed at ≡ read t at r
+      -- with its number
+      pub closes : fitsClosing at r ≡ true → (n : ℕ) → n ≡ at .commits + 1
+          → record { commits = n; whole = at .values; items = 0; next = 0; values = at .values; stopped = at .stopped } ≡ read t at r
       unfolding read
-      closes h = rw (other, h, going)
+      closes h n q = rw (other, h, q, going)
 
       pub halts : fitsClosing at r ≡ false → halted at ≡ read t at r
       unfolding read

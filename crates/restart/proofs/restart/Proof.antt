@@ -5,7 +5,6 @@ use borrow.Author.Needs.{needs}
 use mir.Syntax.{w64}
 use mir.Facts.{toZ-pos}
 use Rattle.wire.proofs.Rows.{right-long}
-use Rattle.restart.specs.Restart.{Restarted}
 use Rattle.restart.proofs.Outcome.{refused, resumed}
 use Rattle.restart.proofs.restart.Statement.{statement}
 use Rattle.restart.proofs.restart.Tie as tie
@@ -39,8 +38,8 @@ returns-2 c =
     let at-restored = at-put .before .before .before in
     let tested = at-restored .before .before in
     let found = at-restored .restored .result in
-    (λ i. Restarted.told (toZ-pos w64 {n = found .commits} (omega arith) i) (at-put .put-rows .ensures i))
-    ∙ resumed _ _ (sym (tested .before .wrong .ensures) ∙ tested .if1 .left) found (at-restored .restored .ensures)
+    resumed _ _ (sym (tested .before .wrong .ensures) ∙ tested .if1 .left) found (at-restored .restored .ensures) _
+    (toZ-pos w64 {n = found .commits} (omega arith)) _ (at-put .put-rows .ensures)
 
 pub restart-spec : {M : Type 1} → statement M
 restart-spec =

@@ -48,7 +48,7 @@ number-requires-2 : tie.Need-number-requires-2
 number-requires-2 c κs = search needs
 
 returns-4 : tie.Need-returns-4
-returns-4 c = by-count _ _ (omega arith) (omega arith) (omega arith) _ (c .before .number2 .ensures)
+returns-4 c = by-count _ _ (omega arith) (omega arith) (omega arith) (c .before .number2 .result) (omega arith)
 
 pub fits-closing-spec : {M : Type 1} → statement M
 fits-closing-spec =

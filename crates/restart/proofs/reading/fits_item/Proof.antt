@@ -69,7 +69,9 @@ number-at-requires-2 : tie.Need-number-at-requires-2
 number-at-requires-2 c κs = search needs
 
 returns-6 : tie.Need-returns-6
-returns-6 c = by-ceiling _ _ _ (omega arith) (omega arith) (omega arith) (omega arith) (omega arith) _ _ (c .before .before .before .before .before .before .before .before .before .before .number .ensures) (c .number-at2 .ensures)
+returns-6 c =
+    let value = c .before .before .before .before .before .before .before .before .before .before .number .result in
+    by-ceiling _ _ _ (omega arith) (omega arith) (omega arith) (omega arith) (omega arith) value (c .number-at2 .result) (omega arith) (omega arith)
 
 pub fits-item-spec : {M : Type 1} → statement M
 fits-item-spec =

@@ -55,7 +55,7 @@ add-after-2 c =
 returns-2 : tie.Need-returns-2
 returns-2 c =
     let tested = c .before .before in
-    takes _ _ _ (tested .before .before .if1 .left) (sym (tested .before .fits-item .ensures) ∙ tested .if2 .taken) _ (c .before .number .ensures)
+    takes _ _ _ (tested .before .before .if1 .left) (sym (tested .before .fits-item .ensures) ∙ tested .if2 .taken) _ _ (c .before .number .ensures) (omega arith)
 
 fits-closing-requires : tie.Need-fits-closing-requires
 fits-closing-requires c κs = search needs
@@ -68,7 +68,7 @@ returns-3 c =
     let tested = c .before .before in
     let other = tested .before .before in
     closes _ _ _ (other .before .before .if1 .left) (sym (other .before .fits-item .ensures) ∙ other .if2 .left)
-    (sym (tested .before .fits-closing .ensures) ∙ tested .if3 .taken)
+    (sym (tested .before .fits-closing .ensures) ∙ tested .if3 .taken) _ (omega arith)
 
 returns-4 : tie.Need-returns-4
 returns-4 c =
