@@ -17,6 +17,7 @@ ghost use Rattle.board.specs.Reached.{Reached};
 ghost use Rattle.journal.specs.Journal.{journalAfter};
 ghost use Rattle.journal.specs.Reached as Kept;
 ghost use Rattle.journal.specs.Run as Journal;
+ghost use Rattle.restart.specs.Restart as Restart;
 ghost use Rattle.hub.specs.Hub.{Outcome, outcome, openedBy, steppedBy};
 
 // A whole run: the count of answers, or minus the number of the refusal. It supposes nothing.
@@ -99,4 +100,12 @@ pub extern "C" fn hub_step_journal(
     let t = journal::host::tell(*board, *request, journal);
     *board = t.board;
     *answer = t.bytes;
+}
+
+// How many commits of the journal are whole, and the table with the values after them; of a wrong table -10, and it stays as it is.
+#[no_mangle]
+pub extern "C" fn hub_restart(table: &mut [u8], journal: &[u8]) -> i64
+    ensures { λ r. ⌜ Restart.told r (now (table .exit)) ≡ Restart.restarted (now (table .entry)) (now (journal .entry)) ⌝ }
+{
+    restart::restart(table, journal)
 }
