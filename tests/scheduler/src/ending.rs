@@ -1,11 +1,17 @@
 //! The end of a transaction: the test, the number and the writing, in one.
 
-use crate::{Answer, Board, KEPT};
+use crate::{Answer, Board, Journal, KEPT};
 
-pub fn end(board: &mut Board, desk: usize) -> Answer {
+/// With a journal, a commit that it has no room for is refused and stays open.
+pub fn end(board: &mut Board, desk: usize, journal: Option<&mut Journal>) -> Answer {
     if let Some(reason) = fails(board, desk) {
         board.desks[desk].free();
         return reason;
+    }
+    if let Some(journal) = journal {
+        if !journal.add(board.last_number + 1, &board.desks[desk]) {
+            return Answer::Refused { reason: 15 };
+        }
     }
     Answer::Committed {
         number: board.commit(desk),

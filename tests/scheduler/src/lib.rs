@@ -6,9 +6,11 @@
 mod answer;
 mod board;
 mod ending;
+mod journal;
 mod locks;
 mod refusals;
 mod request;
+mod restart;
 mod run;
 mod set;
 mod step;
@@ -16,8 +18,10 @@ mod table;
 
 pub use answer::Answer;
 pub use board::{Board, Desk};
+pub use journal::{record, Journal, CLOSING, WRITTEN};
 pub use request::Request;
-pub use run::run;
+pub use restart::restart;
+pub use run::{run, run_journal};
 pub use set::Set;
 pub use table::{open, Item, Kind};
 
@@ -32,3 +36,6 @@ pub const ROW_BYTES: usize = 16;
 pub const REQUEST_BYTES: usize = 8;
 pub const ANSWER_BYTES: usize = 12;
 pub const VALUES_BYTES: usize = 256;
+pub const RECORD_BYTES: usize = 8;
+/// Bytes of a journal past these are neither read nor written.
+pub const JOURNAL_BYTES: usize = 65_536;

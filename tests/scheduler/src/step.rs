@@ -3,29 +3,40 @@
 use crate::ending::end;
 use crate::locks::{ask, Lock};
 use crate::refusals::refusal;
-use crate::{Answer, Board, Kind, Request};
+use crate::{Answer, Board, Journal, Kind, Request};
 
 impl Board {
     /// Handles one request in place and gives its answer's record.
     #[inline]
     pub fn handle(&mut self, record: &[u8; 8]) -> [u8; 12] {
-        let request = Request::from_record(record);
-        let answer = match refusal(self, &request) {
-            Some(reason) => Answer::Refused { reason },
-            None => serve(self, &request),
-        };
-        answer.record(request.desk)
+        answered(self, record, None)
+    }
+
+    /// The same with a journal, which a commit adds its records to.
+    #[inline]
+    pub fn handle_journaled(&mut self, record: &[u8; 8], journal: &mut Journal) -> [u8; 12] {
+        answered(self, record, Some(journal))
     }
 }
 
+#[inline]
+fn answered(board: &mut Board, record: &[u8; 8], journal: Option<&mut Journal>) -> [u8; 12] {
+    let request = Request::from_record(record);
+    let answer = match refusal(board, &request) {
+        Some(reason) => Answer::Refused { reason },
+        None => serve(board, &request, journal),
+    };
+    answer.record(request.desk)
+}
+
 /// A request that no refusal applies to.
-fn serve(board: &mut Board, request: &Request) -> Answer {
+fn serve(board: &mut Board, request: &Request, journal: Option<&mut Journal>) -> Answer {
     let desk = request.desk as usize;
     match request.kind {
         Request::BEGIN => begin(board, desk),
         Request::READ => read(board, desk, request.item),
         Request::WRITE => write(board, desk, request.item, request.value),
-        Request::END => end(board, desk),
+        Request::END => end(board, desk, journal),
         _ => {
             board.desks[desk].free();
             Answer::Abandoned
