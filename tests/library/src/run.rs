@@ -49,7 +49,7 @@ pub fn run_with_null(table: &[u8], requests: &[u8], answers: &mut [u8], values: 
     }
 }
 
-fn or_null(bytes: &[u8]) -> *const u8 {
+pub(crate) fn or_null(bytes: &[u8]) -> *const u8 {
     if bytes.is_empty() {
         ptr::null()
     } else {
@@ -57,7 +57,7 @@ fn or_null(bytes: &[u8]) -> *const u8 {
     }
 }
 
-fn or_null_mut(bytes: &mut [u8]) -> *mut u8 {
+pub(crate) fn or_null_mut(bytes: &mut [u8]) -> *mut u8 {
     if bytes.is_empty() {
         ptr::null_mut()
     } else {
