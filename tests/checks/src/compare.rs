@@ -12,11 +12,19 @@ pub struct Outcome {
 
 /// Runs the library on the case and checks what any run must keep.
 pub fn library_run(case: &Case) -> Result<Outcome, String> {
+    fenced_run(case, library::run)
+}
+
+/// The same for any way to run: table, requests, answers and values are lent.
+pub(crate) fn fenced_run(
+    case: &Case,
+    run: impl FnOnce(&[u8], &[u8], &mut [u8], &mut [u8]) -> i64,
+) -> Result<Outcome, String> {
     let mut answers = Fenced::new(case.answers_length, case.seed);
     let mut values = Fenced::new(case.values_length, case.seed ^ 0xFF);
     let table = Fenced::holding(&case.table, 5);
     let requests = Fenced::holding(&case.requests, 6);
-    let count = library::run(
+    let count = run(
         table.holds(),
         requests.holds(),
         answers.lent(),
@@ -49,6 +57,18 @@ pub fn compare(case: &Case) -> Result<Outcome, String> {
     let mut answers = vec![0; case.answers_length];
     let mut values = vec![0; case.values_length];
     let count = scheduler::run(&case.table, &case.requests, &mut answers, &mut values);
+    same(case, &outcome, count, &answers, &values)?;
+    Ok(outcome)
+}
+
+/// In words how the library's outcome differs from what the scheduler gave.
+pub(crate) fn same(
+    case: &Case,
+    outcome: &Outcome,
+    count: i64,
+    answers: &[u8],
+    values: &[u8],
+) -> Result<(), String> {
     if outcome.count != count {
         return Err(format!(
             "the library returned {}, the scheduler {count}",
@@ -74,5 +94,5 @@ pub fn compare(case: &Case) -> Result<Outcome, String> {
             ));
         }
     }
-    Ok(outcome)
+    Ok(())
 }

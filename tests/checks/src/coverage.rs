@@ -9,8 +9,8 @@ pub struct Coverage {
     pub codes: [u64; 8],
     /// Abort reasons 1 to 3; place 0 stays empty.
     pub reasons: [u64; 4],
-    /// Refusals 1 to 14; place 0 stays empty.
-    pub refusals: [u64; 15],
+    /// Refusals 1 to 15; place 0 stays empty.
+    pub refusals: [u64; 16],
     /// The desks waited for or yielded to.
     pub holders: [u64; 16],
 }
@@ -51,8 +51,8 @@ impl Coverage {
         }
     }
 
-    /// Everything the outline can answer came at least so often, and every
-    /// desk was named.
+    /// Everything that a run without a journal can answer came at least so
+    /// often, every desk was named, and refusal 15 never came.
     pub fn assert_each(&self, often: u64) {
         let enough = |counts: &[u64]| counts.iter().all(|&count| count >= often);
         assert!(enough(&self.codes), "codes {:?}", self.codes);
@@ -61,7 +61,9 @@ impl Coverage {
             "abort reasons {:?}",
             self.reasons
         );
-        assert!(enough(&self.refusals[1..]), "refusals {:?}", self.refusals);
+        let refusals = &self.refusals;
+        assert!(enough(&refusals[1..15]), "refusals {refusals:?}");
+        assert_eq!(refusals[15], 0, "refusals {refusals:?}");
         assert!(enough(&self.holders), "desks named {:?}", self.holders);
     }
 }

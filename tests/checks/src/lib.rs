@@ -5,6 +5,8 @@ mod compare;
 mod coverage;
 mod fenced;
 mod holder;
+#[cfg(feature = "journal")]
+mod journaled;
 mod neighbours;
 mod rebuild;
 mod shrink;
@@ -15,7 +17,12 @@ pub use compare::{compare, library_run, Outcome};
 pub use coverage::Coverage;
 pub use fenced::Fenced;
 pub use holder::named_holder;
-pub use neighbours::{exchanged, neighbours};
+#[cfg(feature = "journal")]
+pub use journaled::{
+    closings, compare_journaled, library_run_journal, library_steps_journal, values_after,
+    JournaledOutcome,
+};
+pub use neighbours::{exchanged, journaled_neighbours, neighbours};
 pub use rebuild::{rebuild, Committed, Deed};
-pub use shrink::shrunk;
+pub use shrink::{shrunk, shrunk_by};
 pub use words::{answer_in_words, request_in_words, rerun, stream_in_words};

@@ -1,11 +1,26 @@
 //! Pairs of neighbouring requests whose exchange changes nothing.
 
-use scheduler::{Board, Request};
+use scheduler::{Board, Journal, Request};
 use streams::Case;
 
 /// The places of all first requests of such pairs: different desks, at most
 /// one of the two a begin or an end, and no item touched or named by both.
 pub fn neighbours(case: &Case) -> Vec<usize> {
+    found(case, |board, record| {
+        board.handle(record);
+    })
+}
+
+/// The same where a journal of this length is lent.
+pub fn journaled_neighbours(case: &Case, length: usize) -> Vec<usize> {
+    let mut bytes = vec![0; length];
+    let mut journal = Journal::open(&mut bytes);
+    found(case, |board, record| {
+        board.handle_journaled(record, &mut journal);
+    })
+}
+
+fn found(case: &Case, mut handle: impl FnMut(&mut Board, &[u8; 8])) -> Vec<usize> {
     let Ok(mut board) = scheduler::open(&case.table) else {
         return Vec::new();
     };
@@ -20,7 +35,7 @@ pub fn neighbours(case: &Case) -> Vec<usize> {
         {
             places.push(place);
         }
-        board.handle(records[place]);
+        handle(&mut board, records[place]);
     }
     places
 }

@@ -12,6 +12,7 @@ fn case(table: Vec<u8>, requests: Vec<u8>, answers_length: usize, values_length:
         requests,
         answers_length,
         values_length,
+        journal_length: 0,
     }
 }
 
@@ -28,10 +29,26 @@ fn some_requests() -> Vec<u8> {
 
 /// A run of exactly these parts: its number, compared with the scheduler's.
 fn verdict(table: Vec<u8>, requests: Vec<u8>, answers: usize, values: usize) -> i64 {
-    match compare(&case(table, requests, answers, values)) {
-        Ok(outcome) => outcome.count,
+    let case = case(table, requests, answers, values);
+    match compare(&case).and_then(|outcome| same_with_a_journal(&case, outcome.count)) {
+        Ok(count) => count,
         Err(why) => panic!("answers {answers}, values {values}: {why}"),
     }
+}
+
+/// A journal, here one without room, makes no difference to these refusals.
+#[cfg(feature = "journal")]
+fn same_with_a_journal(case: &Case, count: i64) -> Result<i64, String> {
+    let journaled = checks::compare_journaled(case, 5)?.outcome.count;
+    match journaled == count {
+        true => Ok(count),
+        false => Err(format!("hub_run {count}, hub_run_journal {journaled}")),
+    }
+}
+
+#[cfg(not(feature = "journal"))]
+fn same_with_a_journal(_: &Case, count: i64) -> Result<i64, String> {
+    Ok(count)
 }
 
 #[test]

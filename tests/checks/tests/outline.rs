@@ -23,6 +23,7 @@ fn case(example: &Example) -> Case {
         requests: example.requests.concat(),
         answers_length: example.requests.len() * 12,
         values_length: 256,
+        journal_length: 0,
     }
 }
 

@@ -1,6 +1,6 @@
 //! A case: what one run is given, and the generator and seed it came from.
 
-use crate::{ages, damage, door, guarded, history, limits, mixed, mutated, Random};
+use crate::{ages, damage, door, guarded, history, limits, mixed, mutated, room, Random};
 
 #[derive(Clone)]
 pub struct Case {
@@ -10,6 +10,8 @@ pub struct Case {
     pub requests: Vec<u8>,
     pub answers_length: usize,
     pub values_length: usize,
+    /// Where a journal is lent.
+    pub journal_length: usize,
 }
 
 impl Case {
@@ -21,6 +23,7 @@ impl Case {
             seed: 0,
             answers_length: requests.len() / 8 * 12 + random.pick(&spare),
             values_length: 256 + random.pick(&spare),
+            journal_length: 65_536,
             table,
             requests,
         }
@@ -62,6 +65,7 @@ pub const GENERATORS: &[Generator] = &[
     generator("empty", 1_200, damage::empty),
     generator("door", 12_000, door::door),
     generator("mutated", 12_000, mutated::mutated),
+    generator("room", 8_000, room::room),
 ];
 
 /// The case of a named generator and a seed.

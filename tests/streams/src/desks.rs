@@ -3,7 +3,7 @@
 //! are told, they put each request to the second scheduler.
 
 use crate::{begin, end, read, write, Random};
-use scheduler::Board;
+use scheduler::{Board, Journal};
 
 /// How the desks behave, in percent where nothing else is said.
 #[derive(Clone)]
@@ -46,6 +46,11 @@ pub struct Hall {
     pub requests: Vec<u8>,
     /// What each desk was told to wait with, and so asks again.
     waiting: [Option<[u8; 8]>; 16],
+    /// The desk whose last request met a journal without room for it.
+    pub lacks_room: Option<u8>,
+    /// Its bytes, and how many of them hold records; without a journal there
+    /// is room for all.
+    journal: Option<(Vec<u8>, usize)>,
 }
 
 impl Hall {
@@ -54,6 +59,15 @@ impl Hall {
             board: scheduler::open(table).unwrap_or_else(|_| panic!("a right table")),
             requests: Vec::new(),
             waiting: [None; 16],
+            lacks_room: None,
+            journal: None,
+        }
+    }
+
+    pub fn with_journal(table: &[u8], length: usize) -> Hall {
+        Hall {
+            journal: Some((vec![0; length], 0)),
+            ..Hall::new(table)
         }
     }
 
@@ -64,11 +78,22 @@ impl Hall {
     /// Puts a request to the board and gives its answer's code.
     pub fn put(&mut self, request: [u8; 8]) -> u8 {
         self.requests.extend(request);
-        let answer = self.board.handle(&request);
+        let answer = self.answered(&request);
+        self.lacks_room = (answer[0] == 0 && answer[3] == 15).then_some(request[1]);
         if request[1] < 16 {
             self.waiting[request[1] as usize] = (answer[0] == 4).then_some(request);
         }
         answer[0]
+    }
+
+    fn answered(&mut self, request: &[u8; 8]) -> [u8; 12] {
+        let Some((bytes, used)) = &mut self.journal else {
+            return self.board.handle(request);
+        };
+        let mut journal = Journal::resume(bytes, *used);
+        let answer = self.board.handle_journaled(request, &mut journal);
+        *used = journal.used();
+        answer
     }
 
     /// Lets some desk put its next request.

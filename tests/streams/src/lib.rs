@@ -16,6 +16,7 @@ mod mixed;
 mod mutated;
 mod random;
 mod record;
+mod room;
 mod table;
 
 pub use case::{make, Case, Generator, GENERATORS};

@@ -1,9 +1,9 @@
 //! Cases of the other generators, changed at random in their structure: the
 //! fuzzer's source.
 
-use crate::{ages, damage, door, guarded, history, limits, mixed, Case, Random};
+use crate::{ages, damage, door, guarded, history, limits, mixed, room, Case, Random};
 
-const SOURCES: [fn(&mut Random) -> Case; 8] = [
+const SOURCES: [fn(&mut Random) -> Case; 9] = [
     mixed::mixed,
     mixed::outline,
     guarded::guarded,
@@ -12,6 +12,7 @@ const SOURCES: [fn(&mut Random) -> Case; 8] = [
     damage::nearly,
     damage::damaged,
     door::door,
+    room::room,
 ];
 
 const BYTES: [u8; 16] = [0, 1, 2, 3, 4, 5, 6, 14, 15, 16, 62, 63, 64, 127, 128, 255];
