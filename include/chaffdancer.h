@@ -17,7 +17,9 @@
  *
  * There are two doors. hub_run serves a whole list of requests on a fresh
  * board and supposes nothing of what it is lent. hub_open and hub_step serve
- * one request at a time on a board that the host keeps.
+ * one request at a time on a board that the host keeps. Each of them has a
+ * twin that also writes a journal of the commits, from which hub_restart
+ * brings the values back after a crash.
  *
  *     uint8_t table[CHAFFDANCER_TABLE_BYTES];
  *     uint8_t request[CHAFFDANCER_REQUEST_BYTES];
@@ -36,6 +38,28 @@
  *     if (answer.code == CHAFFDANCER_ANSWER_OPENED)
  *         printf("desk 3 has age %lu\n", (unsigned long)answer.first);
  *
+ * The same with a journal. table is the table that the file begins with, and
+ * journal holds the bytes that follow it there, then zeros (at first none);
+ * save_new and append are the host's own, and come back only when the bytes
+ * are safe on the disk.
+ *
+ *     static uint8_t journal[CHAFFDANCER_JOURNAL_BYTES];
+ *     static chaffdancer_journaled room;
+ *     uint64_t before;
+ *
+ *     if (hub_restart(table, sizeof table, journal, sizeof journal) < 0)
+ *         return 1;
+ *     save_new(table, sizeof table);
+ *     if (hub_open_journal(&room, table, sizeof table, journal, sizeof journal) != 0)
+ *         return 1;
+ *     while (next_request(request)) {
+ *         before = room.used;
+ *         hub_step_journal(&room, request, bytes, journal, sizeof journal);
+ *         if (room.used > before)
+ *             append(journal + before, room.used - before);
+ *         show(bytes);
+ *     }
+ *
  * Link with libhub.a (x86-64 Linux). The library allocates nothing, keeps
  * nothing between calls, does no input or output and never exits. It takes
  * about 33 KB of stack.
@@ -50,6 +74,19 @@
  *             with different output buffers, are independent. Nobody may
  *             change a lent buffer while the call lasts.
  *
+ * RULES FOR A HOST WITH A JOURNAL
+ *   Sync      An answer "committed" is a promise. Before it is shown to anyone,
+ *             the new bytes of the journal must be on the disk: written and
+ *             synced (fdatasync). If that fails, do not show it, and stop.
+ *   Buffer    Lend every hub_step_journal the buffer that hub_open_journal was
+ *             lent, with its length, as the call before left it. What is said
+ *             of a restart holds for no other, and nothing tests it.
+ *   Table     A journal tells the changes since its opening table; keep both
+ *             together. After a restart the table has the new values, the
+ *             journal is empty, and the next restart takes that table: put both
+ *             on the disk as one, before the first request (a new file that
+ *             replaces the old one by rename).
+ *
  * RECORDS (all numbers low byte first, no headers, no padding)
  *
  *   request, 8 bytes         answer, 12 bytes          table row, 16 bytes
@@ -61,13 +98,20 @@
  *   4-7   value              4-7    first number       13-15   zero
  *                            8-11   second number
  *
+ *   journal record, 8 bytes
+ *   byte  of an item written         closing a commit
+ *   0     1                          2
+ *   1     item                       0
+ *   2-3   number of the commit       number of the commit
+ *   4-7   value                      how many items it has written
+ *
  *   In a request, fields that its kind does not use are zero:
  *     begin, end, abandon   kind, desk
  *     read                  kind, desk, item
  *     write                 kind, desk, item, value
  *
  *   In an answer, fields in which nothing is said are zero:
- *     0 refused     reason: a refusal, 1 to 9; the request changed nothing
+ *     0 refused     reason: a refusal, 1 to 9 or 15; the request changed nothing
  *     1 opened      first: the age; second: the start number
  *     2 value       item; first: its value
  *     3 stored      item
@@ -91,6 +135,16 @@
  *   right if in each row floor <= value <= ceiling, the kind is 0 or 1 and the
  *   last three bytes are zero.
  *   Final values are 64 numbers of 4 bytes, that of item 0 first: 256 bytes.
+ *
+ *   A journal has, for each commit, a record of each item that it wrote, items
+ *   ascending, and then its closing record. Commits are numbered 1, 2, 3 and on.
+ *   Behind the last record a journal is zero, as it was when it was opened. It
+ *   is of any length; bytes past the first 65,536 are neither read nor written.
+ *   A commit of n items takes 8 * (n + 1) bytes. An end that would commit but
+ *   has no room for all of them is refused with 15; whether it would commit is
+ *   tested first, so an end that must be aborted is aborted, room or none. The
+ *   transaction stays open: its end may be asked again (but a journal never
+ *   gets more room), or it is abandoned. A host makes room by a restart.
  */
 #ifndef CHAFFDANCER_H
 #define CHAFFDANCER_H
@@ -111,7 +165,10 @@
 #define CHAFFDANCER_ROW_BYTES 16
 #define CHAFFDANCER_TABLE_BYTES 1024
 #define CHAFFDANCER_VALUES_BYTES 256
+#define CHAFFDANCER_RECORD_BYTES 8      /* of a journal */
+#define CHAFFDANCER_JOURNAL_BYTES 65536 /* the most of a journal that is used */
 #define CHAFFDANCER_BOARD_BYTES 5520
+#define CHAFFDANCER_JOURNALED_BYTES 5528
 #define CHAFFDANCER_BOARD_ALIGNMENT 8
 
 /* Kinds of request: byte 0 of a request. */
@@ -135,6 +192,10 @@
 #define CHAFFDANCER_ANSWER_ABANDONED 6
 #define CHAFFDANCER_ANSWER_ABORTED 7
 
+/* Kinds of journal record: its byte 0. */
+#define CHAFFDANCER_RECORD_WRITTEN 1
+#define CHAFFDANCER_RECORD_CLOSING 2
+
 /* Reasons of an aborted answer: its byte 3. */
 #define CHAFFDANCER_ABORTED_OVERWRITTEN 1
 #define CHAFFDANCER_ABORTED_TOO_OLD 2
@@ -151,6 +212,9 @@
 #define CHAFFDANCER_REFUSED_ABOVE_CEILING 8 /* written value above the ceiling */
 #define CHAFFDANCER_REFUSED_AGES_GIVEN 9    /* begin after age 2,000 was given */
 
+/* Only with a journal: at an end, tested after its validation. */
+#define CHAFFDANCER_REFUSED_NO_ROOM 15 /* the journal is too full for this commit */
+
 /* Refusals of a whole call: returned as minus this number. */
 #define CHAFFDANCER_REFUSED_TABLE 10           /* opening table wrong */
 #define CHAFFDANCER_REFUSED_REQUESTS_LENGTH 11 /* not a multiple of 8 */
@@ -166,6 +230,15 @@
 typedef struct chaffdancer_board {
     uint64_t bytes_of_the_hub[CHAFFDANCER_BOARD_BYTES / 8];
 } chaffdancer_board;
+
+/*
+ * A board with a journal. The host may read used, which counts the bytes of the
+ * journal that hold records, and writes nothing here either.
+ */
+typedef struct chaffdancer_journaled {
+    chaffdancer_board board;
+    uint64_t used;
+} chaffdancer_journaled;
 
 #if defined(__cplusplus) && __cplusplus >= 201103L
 #define CHAFFDANCER_ASSERT(name, condition) static_assert(condition, #name)
@@ -186,6 +259,10 @@ CHAFFDANCER_ASSERT(chaffdancer_board_has_its_size,
 CHAFFDANCER_ASSERT(chaffdancer_board_has_its_alignment,
                    offsetof(struct chaffdancer_board_after_char, board) ==
                        CHAFFDANCER_BOARD_ALIGNMENT);
+CHAFFDANCER_ASSERT(chaffdancer_journaled_has_its_size,
+                   sizeof(chaffdancer_journaled) == CHAFFDANCER_JOURNALED_BYTES);
+CHAFFDANCER_ASSERT(chaffdancer_used_has_its_place,
+                   offsetof(chaffdancer_journaled, used) == CHAFFDANCER_BOARD_BYTES);
 CHAFFDANCER_ASSERT(chaffdancer_lengths_have_64_bits, sizeof(size_t) == 8);
 #undef CHAFFDANCER_ASSERT
 
@@ -252,6 +329,70 @@ int64_t hub_open(chaffdancer_board *board, const uint8_t *table, size_t table_le
 CHAFFDANCER_NOT_NULL(1, 2, 3)
 void hub_step(chaffdancer_board *board, const uint8_t request[CHAFFDANCER_REQUEST_BYTES],
               uint8_t answer[CHAFFDANCER_ANSWER_BYTES]);
+
+/*
+ * hub_run_journal: as hub_run, and each commit adds its records to the journal.
+ *
+ *   journal  of any length, also 0; zeroed first, up to its 65,536th byte
+ *
+ * Returns what hub_run returns, with the same refusals in the same order; a
+ * refused run writes nothing, the journal included. Refusal 15 is an answer
+ * like others. Each request adds one record at most, so a journal as long as
+ * the requests always has room: the answers and values are then hub_run's.
+ */
+CHAFFDANCER_RESULT_MATTERS
+int64_t hub_run_journal(const uint8_t *table, size_t table_length, const uint8_t *requests,
+                        size_t requests_length, uint8_t *answers, size_t answers_length,
+                        uint8_t *values, size_t values_length, uint8_t *journal,
+                        size_t journal_length);
+
+/*
+ * hub_open_journal: open a board with an empty journal.
+ *
+ * Returns 0: the board is freshly opened, used is 0, and the journal is zeroed
+ * up to its 65,536th byte. Or returns -10 as the table is wrong, and the bytes
+ * of board and journal stay as they were.
+ */
+CHAFFDANCER_RESULT_MATTERS
+CHAFFDANCER_NOT_NULL(1)
+int64_t hub_open_journal(chaffdancer_journaled *board, const uint8_t *table, size_t table_length,
+                         uint8_t *journal, size_t journal_length);
+
+/*
+ * hub_step_journal: serve one request; a commit adds its records.
+ *
+ *   board    one that hub_open_journal filled and that only hub_step_journal
+ *            changed since
+ *   journal  the buffer of the call before, as that call left it
+ *
+ * Answers as hub_step does, but for refusal 15. If the answer is "committed",
+ * the bytes of the journal from the old value of used to the new one are its
+ * records: they go to the disk before the answer goes to the desk. Any other
+ * answer leaves the journal as it was.
+ */
+CHAFFDANCER_NOT_NULL(1, 2, 3)
+void hub_step_journal(chaffdancer_journaled *board,
+                      const uint8_t request[CHAFFDANCER_REQUEST_BYTES],
+                      uint8_t answer[CHAFFDANCER_ANSWER_BYTES], uint8_t *journal,
+                      size_t journal_length);
+
+/*
+ * hub_restart: the values after the last whole commit.
+ *
+ *   table    the opening table of the journal; the values in its rows are
+ *            replaced, and nothing else in it
+ *   journal  what is left of the journal: cut after any byte, or damaged
+ *
+ * Returns how many commits are whole, from number 1 on; or -10 as the table is
+ * wrong, and writes nothing. The reading stops at the first record that does
+ * not fit: one of another form or cut short, a number out of turn, items that
+ * do not ascend, an item above 63, a value outside its limits, a wrong count,
+ * or zeros. A commit counts if its closing record is whole; what stands behind
+ * the last such one changes nothing.
+ */
+CHAFFDANCER_RESULT_MATTERS
+int64_t hub_restart(uint8_t *table, size_t table_length, const uint8_t *journal,
+                    size_t journal_length);
 
 #ifdef __cplusplus
 }
@@ -346,6 +487,25 @@ chaffdancer_get_answer(const uint8_t bytes[CHAFFDANCER_ANSWER_BYTES])
     answer.first = chaffdancer_get_number(bytes + 4);
     answer.second = chaffdancer_get_number(bytes + 8);
     return answer;
+}
+
+/* A journal record's fields. */
+struct chaffdancer_record {
+    uint8_t kind;    /* CHAFFDANCER_RECORD_... */
+    uint8_t item;    /* 0 in a closing record */
+    uint16_t number; /* of the commit */
+    uint32_t value;  /* in a closing record how many items the commit has written */
+};
+
+static inline struct chaffdancer_record
+chaffdancer_get_record(const uint8_t bytes[CHAFFDANCER_RECORD_BYTES])
+{
+    struct chaffdancer_record record;
+    record.kind = bytes[0];
+    record.item = bytes[1];
+    record.number = (uint16_t)(bytes[2] | (bytes[3] << 8));
+    record.value = chaffdancer_get_number(bytes + 4);
+    return record;
 }
 
 /* Puts one row into the opening table: 1; or 0 for an item above 63, and nothing is put. */

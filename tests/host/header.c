@@ -4,6 +4,8 @@
 
 int use_header(chaffdancer_board *board, uint8_t *table, uint8_t *request, uint8_t *answer,
                uint8_t *values);
+int use_journal(chaffdancer_journaled *board, uint8_t *table, uint8_t *request, uint8_t *answer,
+                uint8_t *values);
 int names_differ(int number);
 
 int use_header(chaffdancer_board *board, uint8_t *table, uint8_t *request, uint8_t *answer,
@@ -27,6 +29,24 @@ int use_header(chaffdancer_board *board, uint8_t *table, uint8_t *request, uint8
     return chaffdancer_get_value(values, 0) == told.first;
 }
 
+int use_journal(chaffdancer_journaled *board, uint8_t *table, uint8_t *request, uint8_t *answer,
+                uint8_t *values)
+{
+    static uint8_t journal[CHAFFDANCER_JOURNAL_BYTES];
+    struct chaffdancer_record record;
+    if (hub_run_journal(table, CHAFFDANCER_TABLE_BYTES, request, CHAFFDANCER_REQUEST_BYTES, answer,
+                        CHAFFDANCER_ANSWER_BYTES, values, CHAFFDANCER_VALUES_BYTES, journal,
+                        sizeof journal) != 1)
+        return 1;
+    if (hub_restart(table, CHAFFDANCER_TABLE_BYTES, journal, sizeof journal) != 0)
+        return 1;
+    if (hub_open_journal(board, table, CHAFFDANCER_TABLE_BYTES, journal, sizeof journal) != 0)
+        return 1;
+    hub_step_journal(board, request, answer, journal, sizeof journal);
+    record = chaffdancer_get_record(journal);
+    return record.kind + record.item + record.number == 0 && record.value == board->used;
+}
+
 /* A switch takes no number twice. */
 int names_differ(int number)
 {
@@ -45,6 +65,7 @@ int names_differ(int number)
     case CHAFFDANCER_REFUSED_ANSWERS_LENGTH:
     case CHAFFDANCER_REFUSED_VALUES_LENGTH:
     case CHAFFDANCER_REFUSED_TOO_MANY:
+    case CHAFFDANCER_REFUSED_NO_ROOM:
         return 1;
     default:
         break;
@@ -68,6 +89,13 @@ int names_differ(int number)
     case CHAFFDANCER_REQUEST_WRITE:
     case CHAFFDANCER_REQUEST_END:
     case CHAFFDANCER_REQUEST_ABANDON:
+        return 1;
+    default:
+        break;
+    }
+    switch (number) {
+    case CHAFFDANCER_RECORD_WRITTEN:
+    case CHAFFDANCER_RECORD_CLOSING:
         return 1;
     default:
         break;

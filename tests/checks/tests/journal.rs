@@ -78,6 +78,9 @@ fn library_equals_scheduler() {
 fn every_length() {
     let mut lengths = 0;
     each(800, |case| {
+        if case.requests.len() > 8 * 500 {
+            return;
+        }
         let random = &mut Random::new(case.seed ^ 0xE11E);
         let with_room = compare_journaled(case, enough(case)).unwrap_or_else(|why| panic!("{why}"));
         let needed = closings(&with_room.journal).last().copied().unwrap_or(0);
