@@ -1,11 +1,14 @@
 /*
  * The host: reads a script, has the hub serve it, and tells each answer in words.
- * Exit status: 0 served, 1 the run was refused, 2 nothing was run.
+ * Exit status: 0 served, 1 the run was refused, 2 nothing was run; live.h has
+ * those of a host with a journal.
  */
+#define _POSIX_C_SOURCE 200809L /* for fmemopen */
 #include <stdio.h>
 #include <stdlib.h>
 #include <string.h>
 
+#include "live.h"
 #include "memory.h"
 #include "script.h"
 #include "serving.h"
@@ -15,12 +18,16 @@
 #define SCRIPT_BYTES_MOST (16UL * 1024 * 1024)
 
 static const char help[] =
-    "usage: chaffdancer-host [--steps] [SCRIPT | --spring]\n"
+    "usage: chaffdancer-host [--steps | --journal FILE] [SCRIPT | --spring]\n"
     "Serves a script of requests with the hub and tells each answer in words.\n"
     "Without SCRIPT, or with -, the script is read from standard input.\n"
     "\n"
     "  --spring  serve the built-in spring session\n"
     "  --steps   hand the requests over one at a time; prints the same\n"
+    "  --journal FILE\n"
+    "            serve each line as it is read, and keep what is committed in FILE:\n"
+    "            an answer is told when its commit is on the disk. If FILE is there,\n"
+    "            go on from it; its table is then in force, not the script's\n"
     "  --help    print this\n"
     "\n"
     "A script has one of these in a line; # begins a comment:\n"
@@ -35,10 +42,14 @@ static const char help[] =
     "Table lines come before the first request.\n"
     "\n"
     "Exit status: 0 served; 1 the run was refused; 2 nothing was run, as a line or\n"
-    "an argument is wrong or the script cannot be read.\n";
+    "an argument is wrong or the script cannot be read.\n"
+    "With --journal: 0 served to the end; 1 the table of the script or of FILE is\n"
+    "wrong; 2 stopped at a wrong line, or a file cannot be read or made; 3 a commit\n"
+    "could not be written to FILE, and was not told. All commits told are in FILE.\n";
 
 struct options {
     const char *path;
+    const char *journal;
     int spring;
     int steps;
     int help;
@@ -102,29 +113,34 @@ static int serve_file(FILE *file, const char *name, int steps)
     return status;
 }
 
-static int serve_path(const char *path, int steps)
+static int serve_opened(FILE *file, const char *name, const struct options *options)
+{
+    if (options->journal != NULL)
+        return serve_live(file, name, options->journal);
+    return serve_file(file, name, options->steps);
+}
+
+/* Serves a file that was just opened, if it could be, and closes it. */
+static int serve_and_close(FILE *file, const char *name, const struct options *options)
 {
     int status;
-    FILE *file = fopen(path, "rb");
     if (file == NULL) {
-        perror(path);
+        perror(name);
         return 2;
     }
-    status = serve_file(file, path, steps);
+    status = serve_opened(file, name, options);
     fclose(file);
     return status;
 }
 
 static int serve_chosen(const struct options *options)
 {
-    struct text spring;
-    spring.start = spring_session;
-    spring.length = spring_session_length;
     if (options->spring)
-        return serve_text("spring session", spring, options->steps);
+        return serve_and_close(fmemopen((void *)spring_session, spring_session_length, "rb"),
+                               "spring session", options);
     if (options->path != NULL && strcmp(options->path, "-") != 0)
-        return serve_path(options->path, options->steps);
-    return serve_file(stdin, "standard input", options->steps);
+        return serve_and_close(fopen(options->path, "rb"), options->path, options);
+    return serve_opened(stdin, "standard input", options);
 }
 
 /* 1, or 0 if an argument is wrong. */
@@ -140,12 +156,16 @@ static int read_options(struct options *options, int count, char **arguments)
             options->spring = 1;
         else if (strcmp(argument, "--help") == 0)
             options->help = 1;
+        else if (strcmp(argument, "--journal") == 0 && place + 1 < count &&
+                 arguments[place + 1][0] != '-')
+            options->journal = arguments[++place];
         else if ((argument[0] == '-' && argument[1] != '\0') || options->path != NULL)
             return 0;
         else
             options->path = argument;
     }
-    return !(options->spring && options->path != NULL);
+    return !(options->spring && options->path != NULL) &&
+           !(options->steps && options->journal != NULL);
 }
 
 /* An answer that did not reach the reader is no success. */

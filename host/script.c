@@ -3,20 +3,7 @@
 #include <stdlib.h>
 #include <string.h>
 
-#include "fields.h"
 #include "memory.h"
-
-struct row {
-    size_t line; /* 0 while no line gave it */
-    uint32_t floor, ceiling, value, kind;
-};
-
-struct reader {
-    struct script *script;
-    struct place place;
-    struct row rows[CHAFFDANCER_ITEMS];
-    struct row others;
-};
 
 /* The first word has told which row this is: an item's, or that of all others. */
 static int read_row(struct reader *reader, const struct line *line, struct row *row)
@@ -118,26 +105,41 @@ static void add_heading(struct script *script, struct text text)
     script->heading_count++;
 }
 
-static void read_line(struct reader *reader, struct text text)
+void reader_begin(struct reader *reader, struct script *script, const char *name)
+{
+    memset(script, 0, sizeof *script);
+    memset(reader, 0, sizeof *reader);
+    reader->script = script;
+    reader->place.name = name;
+}
+
+int reader_take_line(struct reader *reader, struct text text)
 {
     struct text heading;
     struct line line = line_split(text);
-    if (text_take_heading(text, &heading))
+    reader->place.line++;
+    if (text_take_heading(text, &heading)) {
         add_heading(reader->script, heading);
-    else if (line.count > 0)
-        read_words(reader, &line);
+        return 1;
+    }
+    return line.count == 0 || read_words(reader, &line);
 }
 
-static int fill_table(struct reader *reader)
+const struct row *reader_row(const struct reader *reader, uint32_t item)
+{
+    const struct row *row = &reader->rows[item];
+    if (row->line == 0)
+        row = &reader->others;
+    return row->line == 0 ? NULL : row;
+}
+
+int reader_fill_table(struct reader *reader)
 {
     uint32_t item;
     for (item = 0; item < CHAFFDANCER_ITEMS; item++) {
-        const struct row *row = &reader->rows[item];
-        if (row->line == 0)
-            row = &reader->others;
-        if (row->line == 0)
-            return tell_wrong(&reader->place,
-                              "the script ends with no line for item %lu and no default line",
+        const struct row *row = reader_row(reader, item);
+        if (row == NULL)
+            return tell_wrong(&reader->place, "no line for item %lu so far, and no default line",
                               (unsigned long)item);
         chaffdancer_put_row(reader->script->table, item, row->floor, row->ceiling, row->value,
                             row->kind);
@@ -150,17 +152,12 @@ int script_read(struct script *script, const char *name, struct text text)
 {
     struct reader reader;
     struct text line;
-    memset(script, 0, sizeof *script);
-    memset(&reader, 0, sizeof reader);
-    reader.script = script;
-    reader.place.name = name;
-    while (text_take_line(&text, &line)) {
-        reader.place.line++;
-        read_line(&reader, line);
-    }
+    reader_begin(&reader, script, name);
+    while (text_take_line(&text, &line))
+        reader_take_line(&reader, line);
     /* After a wrong line, a row that is missing may be no fault of its own. */
     if (reader.place.wrong_lines == 0)
-        fill_table(&reader);
+        reader_fill_table(&reader);
     return reader.place.wrong_lines == 0;
 }
 

@@ -20,7 +20,7 @@ static shown ceiling_of(const struct script *script, size_t item)
     return chaffdancer_get_number(row_of(script, item) + 4);
 }
 
-static shown opening_value_of(const struct script *script, size_t item)
+static uint32_t opening_value_of(const struct script *script, size_t item)
 {
     return chaffdancer_get_number(row_of(script, item) + 8);
 }
@@ -72,6 +72,9 @@ static void tell_refusal(const struct script *script, const uint8_t *request, sh
         break;
     case CHAFFDANCER_REFUSED_AGES_GIVEN:
         printf("all 2,000 ages have been given\n");
+        break;
+    case CHAFFDANCER_REFUSED_NO_ROOM:
+        printf("the journal has no room for this commit, and the transaction stays open\n");
         break;
     default: /* 1 and 3 speak of malformed requests, and a script makes none. */
         printf("the request is malformed\n");
@@ -129,31 +132,40 @@ static void tell_answer(const struct script *script, const uint8_t *request,
     }
 }
 
+void tell_heading(const struct text *text, int after_answer)
+{
+    if (after_answer)
+        putchar('\n');
+    fwrite(text->start, 1, text->length, stdout);
+    putchar('\n');
+}
+
 /* Tells the headings that stand before a request, from the given one on. */
 static size_t tell_headings(const struct script *script, size_t heading, size_t request)
 {
     size_t next = heading;
     while (next < script->heading_count && script->headings[next].before == request) {
-        const struct text *text = &script->headings[next].text;
-        if (next == heading && request > 0)
-            putchar('\n');
-        fwrite(text->start, 1, text->length, stdout);
-        putchar('\n');
+        tell_heading(&script->headings[next].text, next == heading && request > 0);
         next++;
     }
     return next;
 }
 
-static void tell_changes(const struct script *script,
-                         const uint8_t values[CHAFFDANCER_VALUES_BYTES])
+void tell_change(uint32_t item, uint32_t before, uint32_t after)
+{
+    printf("item %lu: %lu -> %lu\n", (shown)item, (shown)before, (shown)after);
+}
+
+void tell_changes(const struct script *script, const uint8_t values[CHAFFDANCER_VALUES_BYTES])
 {
     uint32_t item;
     size_t changed = 0;
     printf("\nWhat changed on the board:\n");
     for (item = 0; item < CHAFFDANCER_ITEMS; item++) {
-        shown before = opening_value_of(script, item), after = chaffdancer_get_value(values, item);
+        uint32_t before = opening_value_of(script, item);
+        uint32_t after = chaffdancer_get_value(values, item);
         if (before != after) {
-            printf("item %lu: %lu -> %lu\n", (shown)item, before, after);
+            tell_change(item, before, after);
             changed++;
         }
     }
@@ -161,17 +173,21 @@ static void tell_changes(const struct script *script,
         printf("no item changed\n");
 }
 
+void tell_answered(const struct script *script, const uint8_t *request, const uint8_t *answer)
+{
+    struct chaffdancer_answer told = chaffdancer_get_answer(answer);
+    tell_request(request);
+    tell_answer(script, request, &told);
+}
+
 void tell_served(const struct script *script, const uint8_t *answers,
                  const uint8_t values[CHAFFDANCER_VALUES_BYTES])
 {
     size_t place, heading = 0;
     for (place = 0; place < script->request_count; place++) {
-        const uint8_t *request = script_request(script, place);
-        struct chaffdancer_answer answer =
-            chaffdancer_get_answer(answers + place * CHAFFDANCER_ANSWER_BYTES);
         heading = tell_headings(script, heading, place);
-        tell_request(request);
-        tell_answer(script, request, &answer);
+        tell_answered(script, script_request(script, place),
+                      answers + place * CHAFFDANCER_ANSWER_BYTES);
     }
     tell_headings(script, heading, place);
     tell_changes(script, values);
