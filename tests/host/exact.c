@@ -1,65 +1,15 @@
 /* The library called with buffers of exactly the right length, and wrong ones. */
-#include <stdio.h>
 #include <string.h>
 
 #include "chaffdancer.h"
+#include "example.h"
 #include "lending.h"
-
-#define EXAMPLE_REQUESTS 10
-#define FILLER 0xA5
 
 struct buffers {
     const struct lender *lender;
     uint8_t *table, *requests, *answers, *values;
     size_t table_length, requests_length, answers_length, values_length;
 };
-
-/* desk, code, item, reason, first, second */
-static const uint32_t example_answers[EXAMPLE_REQUESTS][6] = {
-    {0, 1, 0, 0, 1, 0}, {1, 1, 0, 0, 2, 0}, {0, 2, 0, 0, 140, 0}, {1, 3, 0, 0, 0, 0},
-    {1, 5, 0, 0, 1, 0}, {0, 3, 1, 0, 0, 0}, {0, 7, 0, 1, 1, 0},   {1, 0, 0, 5, 0, 0},
-    {1, 1, 0, 0, 3, 1}, {1, 0, 0, 8, 0, 0},
-};
-
-static void put_example_requests(uint8_t requests[EXAMPLE_REQUESTS * CHAFFDANCER_REQUEST_BYTES])
-{
-    chaffdancer_begin(requests, 0);
-    chaffdancer_begin(requests + 8, 1);
-    chaffdancer_read(requests + 16, 0, 0);
-    chaffdancer_write(requests + 24, 1, 0, 115);
-    chaffdancer_end(requests + 32, 1);
-    chaffdancer_write(requests + 40, 0, 1, 1);
-    chaffdancer_end(requests + 48, 0);
-    chaffdancer_write(requests + 56, 1, 0, 1150);
-    chaffdancer_begin(requests + 64, 1);
-    chaffdancer_write(requests + 72, 1, 0, 1150);
-}
-
-static void put_example_table(uint8_t table[CHAFFDANCER_TABLE_BYTES])
-{
-    uint32_t item;
-    chaffdancer_put_row(table, 0, 30, 250, 140, CHAFFDANCER_ITEM_OPEN);
-    chaffdancer_put_row(table, 1, 0, 1, 0, CHAFFDANCER_ITEM_GUARDED);
-    for (item = 2; item < CHAFFDANCER_ITEMS; item++)
-        chaffdancer_put_row(table, item, 0, 1000, 0, CHAFFDANCER_ITEM_OPEN);
-}
-
-static int all_bytes_are(const uint8_t *bytes, size_t length, uint8_t byte)
-{
-    size_t place;
-    for (place = 0; place < length; place++)
-        if (bytes[place] != byte)
-            return 0;
-    return 1;
-}
-
-static int answer_is(const uint8_t *bytes, const uint32_t expected[6])
-{
-    struct chaffdancer_answer answer = chaffdancer_get_answer(bytes);
-    return answer.desk == expected[0] && answer.code == expected[1] && answer.item == expected[2] &&
-           answer.reason == expected[3] && answer.first == expected[4] &&
-           answer.second == expected[5];
-}
 
 static int final_values_are(const uint8_t *values, uint32_t item_0)
 {
@@ -324,10 +274,7 @@ static int helpers_put_bytes(const struct lender *lender)
     return passed;
 }
 
-static const struct check {
-    const char *name;
-    int (*passes)(const struct lender *lender);
-} checks[] = {
+static const struct check checks[] = {
     {"helpers put the right bytes", helpers_put_bytes},
     {"run of no requests", no_requests},
     {"run of one request", one_request},
@@ -344,17 +291,6 @@ static const struct check {
 
 int main(void)
 {
-    size_t place, lender;
-    for (place = 0; place < sizeof checks / sizeof checks[0]; place++) {
-        const char *failed = NULL;
-        for (lender = 0; lender < LENDERS; lender++)
-            if (!checks[place].passes(&lenders[lender]))
-                failed = lenders[lender].name;
-        if (failed == NULL)
-            printf("passed  exact buffers: %s\n", checks[place].name);
-        else
-            printf("FAILED  exact buffers: %s (%s)\n", checks[place].name, failed);
-        fflush(stdout);
-    }
+    run_checks("exact buffers", checks, sizeof checks / sizeof checks[0]);
     return 0;
 }

@@ -1,0 +1,151 @@
+"""A journal file cut after every byte, and damaged: cuts.py HOST SANITIZED FOLDER."""
+
+import os
+import sys
+
+from journal_file import *
+
+HOST, SANITIZED, FOLDER = sys.argv[1:]
+PATH = os.path.join(FOLDER, "cuts.journal")
+
+COMMITS = [
+    [(0, 115), (63, 4_000_000_000)],
+    [],
+    [(item, 100 + item) for item in range(5, 17)],
+    [(1, 1_000_000)],
+    [(2, 30), (3, 258), (4, 2**24 + 1)],
+]
+
+
+def script():
+    return TABLE_LINES + "".join(transaction(3, commit) for commit in COMMITS)
+
+
+def a_file_is_table_and_records():
+    status, told, errors = run(HOST, PATH, script())
+    assert (status, errors) == (0, ""), errors
+    assert told.endswith("\nWhat changed on the board:\n" + told_changes(OPENING, after(OPENING, COMMITS)))
+    with open(PATH, "rb") as file:
+        data = file.read()
+    assert data[:TABLE] == table_of(OPENING)
+    assert commits_of(data[TABLE:]) == (COMMITS, len(data) - TABLE)
+    assert os.listdir(FOLDER).count("cuts.journal.new") == 0
+
+
+def whole():
+    run(HOST, PATH, script())
+    with open(PATH, "rb") as file:
+        return file.read()
+
+
+def restarts(data, words, commits, host=HOST):
+    """The file of these bytes is told in these words, and then it is a new one."""
+    save(PATH, data)
+    status, told, errors = run(host, PATH, "")
+    wanted = told_restart(OPENING, commits) + words + NO_CHANGE
+    assert (status, told, errors) == (0, wanted, ""), f"{len(data)} bytes: {told}{errors}"
+    with open(PATH, "rb") as file:
+        assert file.read() == table_of(after(OPENING, commits)), f"{len(data)} bytes: not replaced"
+
+
+def is_kept(data, words, host=HOST):
+    """The file of these bytes is refused in these words, and stays."""
+    save(PATH, data)
+    status, told, errors = run(host, PATH, TABLE_LINES)
+    wanted = ("refused 10, the table in the journal file is damaged: nothing is restored, "
+              "and the file stays as it is\n" + words)
+    assert (status, told, errors) == (1, wanted, ""), f"{len(data)} bytes: {told}{errors}"
+    with open(PATH, "rb") as file:
+        assert file.read() == data, f"{len(data)} bytes: changed"
+    assert not os.path.exists(PATH + ".new")
+
+
+def hosts(place):
+    """The sanitized host is slow, so it takes every tenth turn."""
+    return SANITIZED if place % 10 == 3 else HOST
+
+
+def every_cut_of_the_records():
+    data = os_remove_and(whole)
+    for length in range(TABLE, len(data) + 1):
+        commits, taken = commits_of(data[TABLE:length])
+        rest = length - TABLE - taken
+        restarts(data[:length], cut_tail(rest) if rest else WHOLE, commits, hosts(length))
+    return f"{len(data) + 1 - TABLE} cuts"
+
+
+def every_cut_of_the_table():
+    data = os_remove_and(whole)
+    for length in [*range(0, TABLE, 7), TABLE - 1]:
+        is_kept(data[:length], f"the file has only {length} bytes of the table's 1,024\n", hosts(length))
+
+
+def os_remove_and(make):
+    if os.path.exists(PATH):
+        os.remove(PATH)
+    return make()
+
+
+def a_cut_that_the_disk_filled_with_zeros():
+    data = os_remove_and(whole)
+    last = commits_of(data[TABLE : len(data) - 1])[1] + TABLE
+    for kept in range(last, len(data), 8):
+        zeros = len(data) - kept
+        restarts(data[:kept] + bytes(zeros), cut_tail(len(data) - last), COMMITS[:-1])
+
+
+def every_record_damaged():
+    """A bit of each byte is turned; what stands behind the damage is lost, and that is said."""
+    data = os_remove_and(whole)
+    damaged = 0
+    for place in range(TABLE, len(data)):
+        spoilt = bytearray(data)
+        spoilt[place] ^= 1 << place % 8
+        commits, taken = commits_of(spoilt[TABLE:])
+        rest = len(data) - TABLE - taken
+        if rest:
+            restarts(bytes(spoilt), damaged_tail(rest), commits, hosts(place))
+            damaged += 1
+    assert damaged > 100
+    return f"{damaged} damaged files"
+
+
+def more_than_the_hub_reads():
+    empty = b"".join(bytes([2, 0, n & 255, n >> 8, 0, 0, 0, 0]) for n in range(1, 8_300))
+    data = table_of(OPENING) + empty
+    commits = [[]] * 8_192
+    restarts(data[: TABLE + 65_536], WHOLE, commits)
+    restarts(data, damaged_tail(len(data) - TABLE - 65_536), commits)
+
+
+def a_damaged_table():
+    data = os_remove_and(whole)
+    for place, byte in [(12, 2), (13, 1), (14, 255), (15, 1), (11, 255), (2 * 16, 141)]:
+        spoilt = bytearray(data)
+        spoilt[place] = byte
+        is_kept(bytes(spoilt), f"the row of item {place // 16} is wrong\n", SANITIZED)
+
+
+def a_restart_of_a_restart():
+    data = os_remove_and(whole)
+    save(PATH, data)
+    values = OPENING
+    for day in range(5):
+        before, commits = load(PATH)
+        assert before == values
+        values = after(values, commits)
+        more = [[(day, 1000 + day)], [(40, day)]] if day != 2 else [[(2, 250)]]
+        status, told, errors = run(SANITIZED, PATH, "".join(transaction(0, commit) for commit in more))
+        assert (status, errors) == (0, ""), errors
+        assert told.startswith(told_restart(before, commits) + WHOLE + "desk 0 begins: opened, age 1, start 0\n")
+        assert load(PATH) == (values, more)
+
+
+check("journal file: table and records, nothing else", a_file_is_table_and_records)
+check("journal file: cut after every byte of its records", every_cut_of_the_records)
+check("journal file: a cut table is refused and kept", every_cut_of_the_table)
+check("journal file: a tail of zeros", a_cut_that_the_disk_filled_with_zeros)
+check("journal file: damaged at every byte of its records", every_record_damaged)
+check("journal file: longer than the hub reads", more_than_the_hub_reads)
+check("journal file: a damaged table is refused and kept", a_damaged_table)
+check("journal file: restart of a restart", a_restart_of_a_restart)
