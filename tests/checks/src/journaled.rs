@@ -155,3 +155,25 @@ pub fn values_after(case: &Case, answers: &[u8]) -> Vec<Vec<u32>> {
     }
     all
 }
+
+/// The library's count and restarted table, or in words how they differ from
+/// the scheduler's.
+pub fn compare_restart(table: &[u8], journal: &[u8]) -> Result<(i64, Vec<u8>), String> {
+    let mut given = Fenced::holding(table, 7);
+    let lent = Fenced::holding(journal, 8);
+    let count = library::restart(given.lent(), lent.holds());
+    let mut wanted = table.to_vec();
+    let wanted_count = scheduler::restart(&mut wanted, journal);
+    if !given.kept_beyond(table.len()) || lent.holds() != journal {
+        return Err("the restart wrote beside the table".to_string());
+    }
+    if count != wanted_count {
+        return Err(format!(
+            "restart: library {count}, scheduler {wanted_count}, journal {journal:?}"
+        ));
+    }
+    if given.holds() != wanted {
+        return Err(format!("restart: the tables differ, journal {journal:?}"));
+    }
+    Ok((count, wanted))
+}

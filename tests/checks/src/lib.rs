@@ -4,6 +4,7 @@ mod cases;
 mod compare;
 mod coverage;
 mod fenced;
+mod fuzzing;
 mod holder;
 #[cfg(feature = "journal")]
 mod journaled;
@@ -16,11 +17,12 @@ pub use cases::{chosen, each, sized};
 pub use compare::{compare, library_run, Outcome};
 pub use coverage::Coverage;
 pub use fenced::Fenced;
+pub use fuzzing::fuzzed;
 pub use holder::named_holder;
 #[cfg(feature = "journal")]
 pub use journaled::{
-    closings, compare_journaled, library_run_journal, library_steps_journal, values_after,
-    JournaledOutcome,
+    closings, compare_journaled, compare_restart, library_run_journal, library_steps_journal,
+    values_after, JournaledOutcome,
 };
 pub use neighbours::{exchanged, journaled_neighbours, neighbours};
 pub use rebuild::{rebuild, Committed, Deed};

@@ -1,6 +1,6 @@
 //! A bounded run of the fuzzer; the program `fuzz` goes on for longer.
 
-use checks::{compare, rerun, shrunk};
+use checks::fuzzed;
 use streams::make;
 
 #[test]
@@ -10,8 +10,8 @@ fn a_bounded_run() {
     }
     for seed in 900_000_000..900_020_000 {
         let case = make("mutated", seed).expect("a known name");
-        if let Err(why) = compare(&case) {
-            panic!("{}\n{why}\n{}", rerun(&case), shrunk(&case));
+        if let Err(why) = fuzzed(&case) {
+            panic!("{why}");
         }
     }
 }

@@ -2,7 +2,9 @@
 //! damage what stands before it. What is wanted comes from requests and
 //! answers alone, from written-out records, or from the second scheduler.
 
-use checks::{chosen, closings, each, library_run_journal, rerun, values_after, Fenced};
+use checks::{
+    chosen, closings, compare_restart, each, library_run_journal, rerun, values_after, Fenced,
+};
 use scheduler::{record, CLOSING, WRITTEN};
 use streams::{begin, end, outline_table, random_table, row, write, Case, Random, Shape};
 
@@ -31,15 +33,7 @@ fn restarted(table: &[u8], journal: &[u8]) -> (i64, Vec<u8>) {
 
 /// The same, compared with the second scheduler.
 fn compared(table: &[u8], journal: &[u8]) -> (i64, Vec<u8>) {
-    let mut wanted = table.to_vec();
-    let count = scheduler::restart(&mut wanted, journal);
-    let given = restarted(table, journal);
-    assert!(
-        given == (count, wanted),
-        "library {}, scheduler {count}, journal {journal:?}",
-        given.0
-    );
-    given
+    compare_restart(table, journal).unwrap_or_else(|why| panic!("{why}"))
 }
 
 /// The used part of the journal that the case leaves, and the values after

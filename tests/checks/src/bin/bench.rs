@@ -10,34 +10,66 @@ use streams::{bench_case, Case};
 const STREAMS: u64 = 8;
 const ROUNDS: usize = 25;
 
-type Way = fn(&Case, usize, &mut [u8], &mut [u8]);
+struct Buffers {
+    answers: Vec<u8>,
+    values: Vec<u8>,
+    #[cfg(feature = "journal")]
+    journal: Vec<u8>,
+}
 
-fn run(case: &Case, requests: usize, answers: &mut [u8], values: &mut [u8]) {
-    library::run(&case.table, &case.requests[..requests * 8], answers, values);
+/// The table, the requests and the buffers.
+type Way = fn(&[u8], &[u8], &mut Buffers);
+
+fn run(table: &[u8], requests: &[u8], buffers: &mut Buffers) {
+    library::run(table, requests, &mut buffers.answers, &mut buffers.values);
 }
 
 #[cfg(feature = "steps")]
-fn steps(case: &Case, requests: usize, answers: &mut [u8], _values: &mut [u8]) {
-    let mut board = library::Board::open(&case.table).expect("a right table");
-    let records = case.records().take(requests);
-    for (request, answer) in records.zip(answers.chunks_exact_mut(12)) {
-        answer.copy_from_slice(&board.step(request));
+fn steps(table: &[u8], requests: &[u8], buffers: &mut Buffers) {
+    let mut board = library::Board::open(table).expect("a right table");
+    let records = requests.chunks_exact(8);
+    for (request, answer) in records.zip(buffers.answers.chunks_exact_mut(12)) {
+        answer.copy_from_slice(&board.step(request.try_into().expect("8 bytes")));
     }
 }
 
-fn second(case: &Case, requests: usize, answers: &mut [u8], values: &mut [u8]) {
-    scheduler::run(&case.table, &case.requests[..requests * 8], answers, values);
+fn second(table: &[u8], requests: &[u8], buffers: &mut Buffers) {
+    scheduler::run(table, requests, &mut buffers.answers, &mut buffers.values);
+}
+
+#[cfg(feature = "journal")]
+fn journaled(table: &[u8], requests: &[u8], buffers: &mut Buffers) {
+    let Buffers {
+        answers,
+        values,
+        journal,
+    } = buffers;
+    library::run_journal(table, requests, answers, values, journal);
+}
+
+#[cfg(feature = "journal")]
+fn second_journaled(table: &[u8], requests: &[u8], buffers: &mut Buffers) {
+    let Buffers {
+        answers,
+        values,
+        journal,
+    } = buffers;
+    scheduler::run_journal(table, requests, answers, values, journal);
 }
 
 /// Seconds for one pass over the streams, cut to so many requests each.
 fn pass(way: Way, cases: &[Case], requests: usize, repeats: usize) -> f64 {
-    let mut answers = vec![0; 12 * requests];
-    let mut values = vec![0; 256];
+    let mut buffers = Buffers {
+        answers: vec![0; 12 * requests],
+        values: vec![0; 256],
+        #[cfg(feature = "journal")]
+        journal: vec![0; 8 * requests],
+    };
     let began = Instant::now();
     for _ in 0..repeats {
-        for case in cases {
-            way(black_box(case), requests, &mut answers, &mut values);
-            black_box((&answers, &values));
+        for case in black_box(cases) {
+            way(&case.table, &case.requests[..requests * 8], &mut buffers);
+            black_box(&buffers);
         }
     }
     began.elapsed().as_secs_f64() / repeats as f64
@@ -78,6 +110,10 @@ fn main() {
         #[cfg(feature = "steps")]
         ("hub_step", steps),
         ("scheduler", second),
+        #[cfg(feature = "journal")]
+        ("journaled", journaled),
+        #[cfg(feature = "journal")]
+        ("scheduler", second_journaled),
     ];
     let functions: Vec<Way> = ways.iter().map(|way| way.1).collect();
     println!("{STREAMS} streams, 16 desks, 12 hot items, a third guarded, {ROUNDS} rounds");
@@ -86,6 +122,8 @@ fn main() {
     let mut coverage = Coverage::default();
     for case in &cases {
         coverage.count(&compare(case).unwrap_or_else(|why| panic!("{why}")));
+        #[cfg(feature = "journal")]
+        checks::compare_journaled(case, case.requests.len()).unwrap_or_else(|why| panic!("{why}"));
     }
     println!("answers of code 0 to 7: {:?}", coverage.codes);
 
@@ -102,15 +140,29 @@ fn main() {
     }
 
     let rates = rates(&functions, &cases, 4_096);
-    let baseline = rates[rates.len() - 1];
+    // Each way is measured by the scheduler that does the same.
+    let plain = ways.iter().position(|way| way.0 == "scheduler");
+    let plain = plain.expect("a baseline");
     println!("requests per second at 4,096 requests:");
-    for ((name, _), rate) in ways.iter().zip(&rates) {
+    for (place, ((name, _), rate)) in ways.iter().zip(&rates).enumerate() {
+        let baseline = rates[if place <= plain {
+            plain
+        } else {
+            ways.len() - 1
+        }];
         println!("  {name:>9} {rate:>12.0}  ratio {:.3}", rate / baseline);
     }
     let text = text_bytes().map_or("unknown".to_string(), |bytes| bytes.to_string());
     println!(
         "bench requests_per_second={:.0} ratio={:.3} text_bytes={text}",
         rates[0],
-        rates[0] / baseline
+        rates[0] / rates[plain]
+    );
+    #[cfg(feature = "journal")]
+    println!(
+        "bench_journal requests_per_second={:.0} ratio={:.3} of_hub_run={:.3}",
+        rates[plain + 1],
+        rates[plain + 1] / rates[plain + 2],
+        rates[plain + 1] / rates[0]
     );
 }
