@@ -5,6 +5,7 @@ use checks::{
     chosen, closings, compare_journaled, each, exchanged, journaled_neighbours, library_run,
     library_run_journal, library_steps_journal, rerun, shrunk_by, sized, Coverage,
 };
+use library::Journaled;
 use std::thread;
 use streams::{Case, Random};
 
@@ -188,4 +189,37 @@ fn exchange_of_neighbours() {
     });
     println!("codes of exchanged requests: {seen:?}, {lacks} of them refused 15");
     assert!(chosen().is_some() || (seen.iter().all(|&count| count > 50) && lacks > 50));
+}
+
+/// After the pair the whole board is the same in both orders, and so is the
+/// journal.
+#[test]
+fn exchange_of_neighbours_leaves_the_same_board() {
+    let mut exchanges = 0;
+    each(32, |case| {
+        let random = &mut Random::new(case.seed ^ 0xB0A2);
+        let length = random.pick(&[8, 40, enough(case), case.journal_length.min(enough(case))]);
+        let places = journaled_neighbours(case, length);
+        if case.requests.len() % 8 != 0 || places.is_empty() {
+            return;
+        }
+        let place = random.pick(&places);
+        let after_the_pair = |case: &Case| {
+            let mut journal = vec![7; length];
+            let mut board = Journaled::open(&case.table, &mut journal).expect("a right table");
+            case.records().take(place + 2).for_each(|request| {
+                board.step(request, &mut journal);
+            });
+            (board, journal)
+        };
+        let same = after_the_pair(case) == after_the_pair(&exchanged(case, place));
+        assert!(
+            same,
+            "{}\nexchange at {place}, journal {length}",
+            rerun(case)
+        );
+        exchanges += 1;
+    });
+    println!("{exchanges} exchanges");
+    assert!(chosen().is_some() || exchanges > 500);
 }

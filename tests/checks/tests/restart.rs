@@ -260,17 +260,29 @@ fn journals_written_out() {
     for (name, records, wanted) in written_out() {
         let (count, table) = compared(&outline_table(), &records.concat());
         assert_eq!(count, wanted, "{name}");
-        let mut values = values_of(&outline_table());
-        for record in &records {
-            let closed = i64::from(record[2]) <= wanted;
-            if record[0] == WRITTEN && closed && values[record[1] as usize % 64] != 99 {
-                values[record[1] as usize] = number(&record[4..]);
-            }
-        }
-        if !name.contains("another number") {
-            assert_eq!(values_of(&table), values, "{name}");
-        }
+        assert_eq!(
+            values_of(&table),
+            values_at(&records, wanted as usize),
+            "{name}"
+        );
     }
+}
+
+/// What the records up to this closing one write on the outline's table.
+fn values_at(records: &[Record], commits: usize) -> Vec<u32> {
+    let mut values = values_of(&outline_table());
+    let closed = |at: &usize| records[*at][0] == CLOSING;
+    let end = match commits {
+        0 => 0,
+        _ => (0..records.len())
+            .filter(closed)
+            .nth(commits - 1)
+            .expect("so many"),
+    };
+    for record in records[..end].iter().filter(|record| record[0] == WRITTEN) {
+        values[record[1] as usize] = number(&record[4..]);
+    }
+    values
 }
 
 /// 8,192 records fill the limit; what stands behind it is not read, were it

@@ -200,9 +200,7 @@ fn long_histories() {
         let random = &mut Random::new(seed ^ 0x1046);
         let length = random.pick(&[65_535, 65_536, 65_537, 70_000, 30_001]);
         let mut desk = Desk::open(length);
-        let mut second = scheduler::open(&outline_table())
-            .ok()
-            .expect("a right table");
+        let mut second = scheduler::open(&outline_table()).expect("a right table");
         let mut bytes = Fenced::new(length, 9);
         let mut journal = Journal::open(bytes.lent());
         for step in 0..30_000 {
@@ -265,12 +263,10 @@ fn the_board_is_the_one_without_a_journal() {
             _ => write(name, random.below(4) as u8, random.below(300) as u32),
         };
         let answer = desk.board.step(&request, desk.journal.lent());
-        assert_ne!((answer[0], answer[3]), LACKS_ROOM_BYTES);
+        assert!(answer[0] != 0 || answer[3] != 15);
         assert_eq!(answer, plain.step(&request));
     }
 }
-
-const LACKS_ROOM_BYTES: (u8, u8) = (0, 15);
 
 #[test]
 fn a_refused_opening_keeps_every_byte() {
