@@ -36,7 +36,7 @@ enum file_state journal_find(const char *path, struct found *found);
  */
 int64_t journal_open(struct journal *journal, const uint8_t table[CHAFFDANCER_TABLE_BYTES]);
 
-/* Serves a request: 1; or 0 if its commit is not safe in the file, and then it must not be shown. */
+/* Serves a request: 1; or 0 if its commit is not safe in the file, and must not be shown. */
 int journal_step(struct journal *journal, const uint8_t *request,
                  uint8_t answer[CHAFFDANCER_ANSWER_BYTES]);
 

@@ -33,6 +33,9 @@ def a_file_is_table_and_records():
 
 
 def whole():
+    """The bytes of a new file after the script."""
+    if os.path.exists(PATH):
+        os.remove(PATH)
     run(HOST, PATH, script())
     with open(PATH, "rb") as file:
         return file.read()
@@ -66,7 +69,7 @@ def hosts(place):
 
 
 def every_cut_of_the_records():
-    data = os_remove_and(whole)
+    data = whole()
     for length in range(TABLE, len(data) + 1):
         commits, taken = commits_of(data[TABLE:length])
         rest = length - TABLE - taken
@@ -75,19 +78,13 @@ def every_cut_of_the_records():
 
 
 def every_cut_of_the_table():
-    data = os_remove_and(whole)
+    data = whole()
     for length in [*range(0, TABLE, 7), TABLE - 1]:
         is_kept(data[:length], f"the file has only {length} bytes of the table's 1,024\n", hosts(length))
 
 
-def os_remove_and(make):
-    if os.path.exists(PATH):
-        os.remove(PATH)
-    return make()
-
-
 def a_cut_that_the_disk_filled_with_zeros():
-    data = os_remove_and(whole)
+    data = whole()
     last = commits_of(data[TABLE : len(data) - 1])[1] + TABLE
     for kept in range(last, len(data), 8):
         zeros = len(data) - kept
@@ -96,7 +93,7 @@ def a_cut_that_the_disk_filled_with_zeros():
 
 def every_record_damaged():
     """A bit of each byte is turned; what stands behind the damage is lost, and that is said."""
-    data = os_remove_and(whole)
+    data = whole()
     damaged = 0
     for place in range(TABLE, len(data)):
         spoilt = bytearray(data)
@@ -119,7 +116,7 @@ def more_than_the_hub_reads():
 
 
 def a_damaged_table():
-    data = os_remove_and(whole)
+    data = whole()
     for place, byte in [(12, 2), (13, 1), (14, 255), (15, 1), (11, 255), (2 * 16, 141)]:
         spoilt = bytearray(data)
         spoilt[place] = byte
@@ -127,7 +124,7 @@ def a_damaged_table():
 
 
 def a_restart_of_a_restart():
-    data = os_remove_and(whole)
+    data = whole()
     save(PATH, data)
     values = OPENING
     for day in range(5):

@@ -116,6 +116,6 @@ def check(name, body):
     try:
         said = body()
     except AssertionError as wrong:
-        print(f"FAILED  {name}: {wrong}", flush=True)
+        print(f"FAILED  {name}: " + str(wrong).replace("\n", " / "), flush=True)
     else:
         print(f"passed  {name}{': ' + said if said else ''}", flush=True)
