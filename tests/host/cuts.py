@@ -64,8 +64,8 @@ def is_kept(data, words, host=HOST):
 
 
 def hosts(place):
-    """The sanitized host is slow, so it takes every tenth turn."""
-    return SANITIZED if place % 10 == 3 else HOST
+    """The sanitized host is slow to start, so it takes a few turns only."""
+    return SANITIZED if place % 16 == 3 else HOST
 
 
 def every_cut_of_the_records():
@@ -107,6 +107,25 @@ def every_record_damaged():
     return f"{damaged} damaged files"
 
 
+def record(kind, item, number_of, value):
+    return bytes([kind, item, number_of, 0]) + value.to_bytes(4, "little")
+
+
+def a_tail_that_no_commit_leaves():
+    """Records without an end are a commit that was being written only if each of them fits."""
+    fits = [record(1, 2, 1, 30), record(1, 5, 1, 7)]
+    strange = [record(1, 2, 1, 29), record(1, 2, 1, 251), record(1, 64, 1, 7), record(1, 5, 2, 7),
+               record(1, 5, 0, 7), record(3, 5, 1, 7), record(2, 0, 1, 3)]
+    restarts(table_of(OPENING) + b"".join(fits), cut_tail(16), [])
+    for wrong in strange + [fits[0], fits[1]]:
+        restarts(table_of(OPENING) + b"".join(fits) + wrong, damaged_tail(24), [])
+    for wrong in strange:
+        restarts(table_of(OPENING) + wrong, damaged_tail(8), [])
+    longest = b"".join(record(1, item, 1, 30) for item in range(ITEMS))
+    restarts(table_of(OPENING) + longest + bytes(8), cut_tail(520), [])
+    restarts(table_of(OPENING) + longest + bytes(9), damaged_tail(521), [])
+
+
 def more_than_the_hub_reads():
     empty = b"".join(bytes([2, 0, n & 255, n >> 8, 0, 0, 0, 0]) for n in range(1, 8_300))
     data = table_of(OPENING) + empty
@@ -143,6 +162,7 @@ check("journal file: cut after every byte of its records", every_cut_of_the_reco
 check("journal file: a cut table is refused and kept", every_cut_of_the_table)
 check("journal file: a tail of zeros", a_cut_that_the_disk_filled_with_zeros)
 check("journal file: damaged at every byte of its records", every_record_damaged)
+check("journal file: a tail that no commit leaves", a_tail_that_no_commit_leaves)
 check("journal file: longer than the hub reads", more_than_the_hub_reads)
 check("journal file: a damaged table is refused and kept", a_damaged_table)
 check("journal file: restart of a restart", a_restart_of_a_restart)

@@ -131,7 +131,7 @@ check_journal() {
     check "faults compile" "${CC:-cc}" -std=c99 "${warnings[@]}" -shared -fPIC tests/host/faults.c \
         -o "$work/faults.so"
     count_told "test of faults" python3 tests/host/faults.py "$plain" "$work/faults.so" "$quick"
-    count_told "test of kills" python3 tests/host/kills.py "$plain" 150 1 "$quick"
-    count_told "test of kills on a disk" python3 tests/host/kills.py "$plain" 40 2 "$work"
-    count_told "test of kills, sanitized" python3 tests/host/kills.py "$sanitized" 30 3 "$quick"
+    count_told "test of kills" python3 tests/host/kills.py "$plain" 100 1 "$quick"
+    count_told "test of kills on a disk" python3 tests/host/kills.py "$plain" 30 2 "$work"
+    count_told "test of kills, sanitized" python3 tests/host/kills.py "$sanitized" 20 3 "$quick"
 }

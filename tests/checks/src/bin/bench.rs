@@ -111,9 +111,9 @@ fn main() {
         ("hub_step", steps),
         ("scheduler", second),
         #[cfg(feature = "journal")]
-        ("journaled", journaled),
+        ("hub_run_journal", journaled),
         #[cfg(feature = "journal")]
-        ("scheduler", second_journaled),
+        ("scheduler_journal", second_journaled),
     ];
     let functions: Vec<Way> = ways.iter().map(|way| way.1).collect();
     println!("{STREAMS} streams, 16 desks, 12 hot items, a third guarded, {ROUNDS} rounds");
@@ -128,13 +128,13 @@ fn main() {
     println!("answers of code 0 to 7: {:?}", coverage.codes);
 
     println!("nanoseconds for a request, opening and final values included:");
-    let names: Vec<String> = ways.iter().map(|way| format!("{:>10}", way.0)).collect();
+    let names: Vec<String> = ways.iter().map(|way| format!("{:>18}", way.0)).collect();
     println!("  requests {}", names.join(""));
     for requests in [64, 128, 256, 512, 1_024, 2_048, 4_096] {
         let rates = rates(&functions, &cases, requests);
         let row: Vec<String> = rates
             .iter()
-            .map(|rate| format!("{:>10.1}", 1e9 / rate))
+            .map(|rate| format!("{:>18.1}", 1e9 / rate))
             .collect();
         println!("  {requests:>8} {}", row.join(""));
     }
@@ -150,7 +150,7 @@ fn main() {
         } else {
             ways.len() - 1
         }];
-        println!("  {name:>9} {rate:>12.0}  ratio {:.3}", rate / baseline);
+        println!("  {name:>17} {rate:>12.0}  ratio {:.3}", rate / baseline);
     }
     let text = text_bytes().map_or("unknown".to_string(), |bytes| bytes.to_string());
     println!(
