@@ -21,7 +21,13 @@ def script():
     return TABLE_LINES + "".join(transaction(3, commit) for commit in COMMITS)
 
 
+def remove():
+    if os.path.exists(PATH):
+        os.remove(PATH)
+
+
 def a_file_is_table_and_records():
+    remove()
     status, told, errors = run(HOST, PATH, script())
     assert (status, errors) == (0, ""), errors
     assert told.endswith("\nWhat changed on the board:\n" + told_changes(OPENING, after(OPENING, COMMITS)))
@@ -34,8 +40,7 @@ def a_file_is_table_and_records():
 
 def whole():
     """The bytes of a new file after the script."""
-    if os.path.exists(PATH):
-        os.remove(PATH)
+    remove()
     run(HOST, PATH, script())
     with open(PATH, "rb") as file:
         return file.read()
