@@ -139,12 +139,13 @@
  *   A journal has, for each commit, a record of each item that it wrote, items
  *   ascending, and then its closing record. Commits are numbered 1, 2, 3 and on.
  *   Behind the last record a journal is zero, as it was when it was opened. It
- *   is of any length; bytes past the first 65,536 are neither read nor written.
- *   A commit of n items takes 8 * (n + 1) bytes. An end that would commit but
- *   has no room for all of them is refused with 15; whether it would commit is
- *   tested first, so an end that must be aborted is aborted, room or none. The
- *   transaction stays open: its end may be asked again (but a journal never
- *   gets more room), or it is abandoned. A host makes room by a restart.
+ *   may be of any length, but the hub uses 65,536 bytes of it at most and never
+ *   touches the others. A commit of n items takes 8 * (n + 1) bytes. If these do
+ *   not all fit, the end is refused with 15 and none is written; first comes the
+ *   question whether it may commit at all, so an end that must be aborted is
+ *   aborted, room or none. Refused, the desk keeps its transaction: it may end
+ *   again (but a journal never gets more room) or abandon. A host makes room by
+ *   a restart.
  */
 #ifndef CHAFFDANCER_H
 #define CHAFFDANCER_H
@@ -387,8 +388,8 @@ void hub_step_journal(chaffdancer_journaled *board,
  * wrong, and writes nothing. The reading stops at the first record that does
  * not fit: one of another form or cut short, a number out of turn, items that
  * do not ascend, an item above 63, a value outside its limits, a wrong count,
- * or zeros. A commit counts if its closing record is whole; what stands behind
- * the last such one changes nothing.
+ * or zeros. A commit counts from the last byte of its closing record on, and
+ * whatever follows the last that counts changes nothing.
  */
 CHAFFDANCER_RESULT_MATTERS
 int64_t hub_restart(uint8_t *table, size_t table_length, const uint8_t *journal,

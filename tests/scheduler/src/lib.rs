@@ -37,5 +37,5 @@ pub const REQUEST_BYTES: usize = 8;
 pub const ANSWER_BYTES: usize = 12;
 pub const VALUES_BYTES: usize = 256;
 pub const RECORD_BYTES: usize = 8;
-/// Bytes of a journal past these are neither read nor written.
+/// So much of a journal is used, however long it is.
 pub const JOURNAL_BYTES: usize = 65_536;
