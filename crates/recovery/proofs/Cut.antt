@@ -21,12 +21,18 @@ use Rattle.records.specs.Records.{room}
 use Rattle.journal.specs.Journal.{Ledger, opened, next}
 use Rattle.journal.proofs.Room.{room-most}
 use Rattle.restart.specs.Restart.{unread, read, restored, withValues, told, restarted}
+use Rattle.restart.specs.Restarts.{freshWith}
+use Rattle.restart.proofs.Restarts.{restarted-opens}
 use Rattle.restart.specs.declared.reading.Reading.{Reading}
-use Rattle.recovery.specs.Cuts.{within, boardWithin, Cuts}
+use Rattle.recovery.specs.Cuts.{within, boardWithin, Cuts, Resumes}
 use Rattle.recovery.proofs.Pieces.{same-front}
 use Rattle.recovery.proofs.Quiet.{Same, quiet}
 use Rattle.recovery.proofs.Entry.{clean}
 use Rattle.recovery.proofs.Held.{Held, held-step, written-step, opened-held}
+
+-- as many commits are whole as b has numbers, with its values
+abbrev Tells : Board → Reading → Type 0
+Tells b at = (at .commits ≡ b .number .0) × (at .whole ≡ b .values)
 
 module _ (t : List ℕ) (bytes : Bytes 1024 t) where
   abbrev start : Reading
@@ -35,10 +41,6 @@ module _ (t : List ℕ) (bytes : Bytes 1024 t) where
   -- what is read of the first n records
   abbrev readOf : List ℕ → ℕ → Reading
   readOf j n = after (read t) start (eightsOf j n)
-
-  -- as many commits are whole as b has numbers, with its values
-  abbrev Tells : Board → Reading → Type 0
-  Tells b at = (at .commits ≡ b .number .0) × (at .whole ≡ b .values)
 
   -- a run keeps the bytes that are used
   run-long : (qs : List (List ℕ)) (l : Ledger) → Held t l → length (after next l qs .journal) ≡ length (l .journal)
@@ -117,9 +119,11 @@ module _ (c : ℕ) (j : List ℕ) where
       by-test (leb c (length j)) (λ e. rw (length-take-le c j (leb-true c (length j) e)) h)
       (λ e. let past : length j < c = leb-false c (length j) e in rw (take-all c j (omega arith)) g)
 
-pub cuts : Cuts
-unfolding restarted restored
-cuts t bytes right journal requests cut =
+-- what is read of the cut
+read-cut : (t : List ℕ) → Bytes 1024 t → (journal : List ℕ) (requests : List (List ℕ)) (cut : ℕ)
+    → Tells (boardWithin cut (opened t journal) requests) (restored t (take cut (after next (opened t journal) requests .journal)))
+unfolding restored
+read-cut t bytes journal requests cut =
     let l = opened t journal in
     let held = opened-held t journal in
     let j = after next l requests .journal in
@@ -132,8 +136,18 @@ cuts t bytes right journal requests cut =
     let all : (k : ℕ) → 8 * k ≤ room (length (l .journal)) → 8 * k ≤ cut → k ≤ n = λ k a b.
         let within-room : 8 * k ≤ room (length piece) = room-least (8 * k) (length piece) (omega (arith, a, room-most (length (l .journal)) .1)) (cut-least cut j (8 * k) b (omega (arith, a, long, room-most (length (l .journal)) .0))) in
         omega (arith, within-room) in
-    let last = boardWithin cut l requests in
     let tells = cut-run t bytes cut n (omega arith) requests l held (omega arith) most all in
     let same : eightsOf piece n ≡ eightsOf j n = same-front piece j (8 * n) n (take-take (8 * n) cut j (omega arith)) (omega arith) few (omega arith) in
     let whole = ap (after (read t) (unread (opening t .values))) same in
-    rw right (λ i. told (pos ((ap (λ (r : Reading). r .commits) whole ∙ tells .0) i)) (withValues t ((ap (λ (r : Reading). r .whole) whole ∙ tells .1) i)))
+    (ap (λ (r : Reading). r .commits) whole ∙ tells .0, ap (λ (r : Reading). r .whole) whole ∙ tells .1)
+
+pub cuts : Cuts
+unfolding restarted
+cuts t bytes right journal requests cut =
+    let tells = read-cut t bytes journal requests cut in
+    rw right (λ i. told (pos (tells .0 i)) (withValues t (tells .1 i)))
+
+pub resumes : Resumes
+resumes t bytes right journal requests cut =
+    restarted-opens t (take cut (after next (opened t journal) requests .journal)) bytes right
+    ∙ ap (freshWith t) (read-cut t bytes journal requests cut .1)

@@ -9,9 +9,11 @@ use lib.ListN.{take}
 use Rattle.runs.specs.Runs.{after}
 use Rattle.words.specs.Bytes.{Bytes}
 use Rattle.wire.specs.Table.{wrong}
+use Rattle.board.specs.Opening.{opening}
 use Rattle.board.specs.declared.Board.{Board}
 use Rattle.journal.specs.Journal.{Ledger, opened, next}
 use Rattle.restart.specs.Restart.{withValues, told, restarted}
+use Rattle.restart.specs.Restarts.{tableAfter, freshWith}
 
 -- of a run, the requests before the first one whose records are not whole within the first `cut` bytes
 abbrev pub within : ℕ → Ledger → List (List ℕ) → List (List ℕ)
@@ -29,3 +31,11 @@ Cuts =
     → let start = opened table journal in
     let last = boardWithin cut start requests in
     restarted table (take cut (after next start requests .journal)) ≡ told (pos (last .number .0)) (withValues table (last .values))
+
+-- the board is then a fresh opening of the table with these values; that the table is right again says RestartedRight of the crate restart,
+-- so the demands, which are made of every right table, hold of what follows
+abbrev pub Resumes : Type 0
+Resumes =
+    (table : List ℕ) → Bytes 1024 table → wrong table ≡ false → (journal : List ℕ) (requests : List (List ℕ)) (cut : ℕ)
+    → let start = opened table journal in
+    opening (tableAfter table (take cut (after next start requests .journal))) ≡ freshWith table (boardWithin cut start requests .values)
