@@ -21,10 +21,11 @@ use Rattle.board.specs.Reached as Board
 use Rattle.board.proofs.Bounds.{answer-item}
 use Rattle.board.proofs.Reached.{reached-opening, reached-step}
 use Rattle.records.specs.Records.{sizeOf, room}
+use Rattle.records.proofs.Sizes.{room-most}
 use Rattle.journal.specs.Journal.{limited, asking, answerIn, added, step, fresh}
 use Rattle.journal.specs.Reached.{Call, called, EightEach, Reached}
 use Rattle.journal.specs.declared.Journaled.{Journaled}
-use Rattle.journal.proofs.Room.{room-most, limited-ways, limited-room, limited-twice, added-size}
+use Rattle.journal.proofs.Room.{limited-ways, limited-room, limited-twice, added-size}
 
 -- what is used after an answer that stands
 used-most : (k : Desk) (used n : ℕ) (a : Answer) → limited (used + sizeOf (k .written)) (room n) a ≡ a → used ≤ 65536 → used + length (added k a) ≤ 65536
@@ -33,7 +34,7 @@ used-most k used n (Opened a s) e h = omega arith
 used-most k used n (Value i v) e h = omega arith
 used-most k used n (Stored i) e h = omega arith
 used-most k used n (Wait i f) e h = omega arith
-used-most k used n (Committed m) e h = omega (arith, added-size k m, limited-room (used + sizeOf (k .written)) (room n) m e, room-most n .1)
+used-most k used n (Committed m) e h = omega (arith, added-size k m, limited-room (used + sizeOf (k .written)) (room n) m e, room-most n)
 used-most k used n Abandoned e h = omega arith
 used-most k used n (Aborted w) e h = omega arith
 

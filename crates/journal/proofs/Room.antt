@@ -3,7 +3,6 @@ use Prim.Native.Nat.{ℕ, _≤_, _<_}
 use mathlib.Core.Path.{_≡_, refl, ap}
 use mathlib.Core.Bool.{Bool, true, false}
 use mathlib.Core.List.{List, [], _∷_}
-use native.Mathlib.Omega.{arith}
 use types.Run.{OneOf, miss}
 use denote.Enum.Declared.{tagOf}
 use borrow.Author.Tests.{ltb-true, ltb-false}
@@ -16,12 +15,9 @@ use Rattle.wire.specs.declared.Answer.the-variants.{Refused, Opened, Value, Sto
 use Rattle.wire.proofs.Answer as N
 use Rattle.desks.specs.Desks.{copyOf}
 use Rattle.desks.specs.declared.Desk.{Desk}
-use Rattle.records.specs.Records.{sizeOf, room, recordsOf}
+use Rattle.records.specs.Records.{sizeOf}
 use Rattle.records.proofs.Sizes.{entry-length}
 use Rattle.journal.specs.Journal.{limited, added}
-
-pub room-most : (n : ℕ) → (room n ≤ n) × (room n ≤ 65536)
-room-most n = by-test (ltb 65536 n) (λ e. rw e (omega (arith, ltb-true 65536 n e), omega arith)) (λ e. rw e (omega arith, ltb-false 65536 n e))
 
 abbrev commits : Answer → Bool
 commits (Refused n) = false

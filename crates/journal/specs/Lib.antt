@@ -1,3 +1,4 @@
 pub mod Journal
 pub mod Reached
 pub mod Run
+pub mod Calls

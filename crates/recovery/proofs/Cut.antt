@@ -18,8 +18,8 @@ use Rattle.board.specs.Opening.{opening}
 use Rattle.board.specs.declared.Board.{Board}
 use Rattle.lent.specs.Pieces.{eightsOf}
 use Rattle.records.specs.Records.{room}
+use Rattle.records.proofs.Sizes.{room-most, room-within}
 use Rattle.journal.specs.Journal.{Ledger, opened, next}
-use Rattle.journal.proofs.Room.{room-most}
 use Rattle.restart.specs.Restart.{unread, read, restored, withValues, told, restarted}
 use Rattle.restart.specs.Restarts.{freshWith}
 use Rattle.restart.proofs.Restarts.{restarted-opens}
@@ -91,8 +91,8 @@ module _ (t : List ℕ) (bytes : Bytes 1024 t) where
         let past : cut < then .kept .used = leb-false (then .kept .used) cut no in
         let u = l .kept .used in
         let long : length j ≡ length (l .journal) = run-long (q ∷ qs) l held in
-        let few : u ≤ length (l .journal) = omega (arith, held .most, room-most (length (l .journal)) .0) in
-        let few′ : then .kept .used ≤ length (then .journal) = omega (arith, held′ .most, room-most (length (then .journal)) .0) in
+        let few : u ≤ length (l .journal) = omega (arith, held .most, room-within (length (l .journal))) in
+        let few′ : then .kept .used ≤ length (then .journal) = omega (arith, held′ .most, room-within (length (then .journal))) in
         subst (λ (rs : List (List ℕ)). Tells (after next l rs .kept .board) (readOf j n)) (sym none)
         (tells-on l held j n (counts l held from all)
         (same-front j (l .journal) u (held .count) (run-front (q ∷ qs) l held) (omega (arith, held .used)) (rw long few) few)
@@ -131,10 +131,10 @@ read-cut t bytes journal requests cut =
     let piece = take cut j in
     let n = room (length piece) / 8 in
     let short = cut-length cut j in
-    let few : 8 * n ≤ length piece = omega (arith, room-most (length piece) .0) in
-    let most : 8 * n ≤ room (length (l .journal)) = room-least (8 * n) (length (l .journal)) (omega (arith, room-most (length piece) .1)) (omega arith) in
+    let few : 8 * n ≤ length piece = omega (arith, room-within (length piece)) in
+    let most : 8 * n ≤ room (length (l .journal)) = room-least (8 * n) (length (l .journal)) (omega (arith, room-most (length piece))) (omega arith) in
     let all : (k : ℕ) → 8 * k ≤ room (length (l .journal)) → 8 * k ≤ cut → k ≤ n = λ k a b.
-        let within-room : 8 * k ≤ room (length piece) = room-least (8 * k) (length piece) (omega (arith, a, room-most (length (l .journal)) .1)) (cut-least cut j (8 * k) b (omega (arith, a, long, room-most (length (l .journal)) .0))) in
+        let within-room : 8 * k ≤ room (length piece) = room-least (8 * k) (length piece) (omega (arith, a, room-most (length (l .journal)))) (cut-least cut j (8 * k) b (omega (arith, a, long, room-within (length (l .journal))))) in
         omega (arith, within-room) in
     let tells = cut-run t bytes cut n (omega arith) requests l held (omega arith) most all in
     let same : eightsOf piece n ≡ eightsOf j n = same-front piece j (8 * n) n (take-take (8 * n) cut j (omega arith)) (omega arith) few (omega arith) in

@@ -32,9 +32,9 @@ use Rattle.lent.specs.Pieces.{eightsOf, inOne}
 use Rattle.lent.proofs.InOne.{EightLong, inOne-length}
 use Rattle.records.specs.Records.{recordOf, countBelow, itemRecord, itemRecords, entry, recordsOf, sizeOf, room, over}
 use Rattle.records.proofs.Appended.{over-is, over-none, over-length, over-inside, over-after}
-use Rattle.records.proofs.Sizes.{inOne-append, items-length}
+use Rattle.records.proofs.Sizes.{inOne-append, items-length, room-within}
 use Rattle.journal.specs.Journal.{limited, asking, answerIn, added, step, journalAfter, cleared, Ledger, opened, next}
-use Rattle.journal.proofs.Room.{room-most, limited-ways, limited-room, limited-twice, added-size}
+use Rattle.journal.proofs.Room.{limited-ways, limited-room, limited-twice, added-size}
 use Rattle.restart.specs.Restart.{unread, read}
 use Rattle.restart.specs.declared.reading.Reading.{Reading}
 use Rattle.recovery.proofs.Pieces.{put-after, long-more}
@@ -243,7 +243,7 @@ module _ (t : List ℕ) (bytes : Bytes 1024 t) (l : Ledger) (held : Held t l) (q
     fits = omega (arith, added-size k n, limited-room (used + sizeOf (k .written)) (room (length j)) n (g .stands))
 
     fits-long : used + length (inOne es) ≤ length j
-    fits-long = omega (arith, fits, room-most (length j) .0)
+    fits-long = omega (arith, fits, room-within (length j))
 
     same-long : length (over j used (inOne es)) ≡ length j
     same-long = over-length j used (inOne es) fits-long
@@ -259,7 +259,7 @@ module _ (t : List ℕ) (bytes : Bytes 1024 t) (l : Ledger) (held : Held t l) (q
     read-on : after (read t) (unread (opening t .values)) (eightsOf (over j used (inOne es)) (held .count + length es)) ≡ clean (n .0) (Rules.installed (k .written) (copyOf k) (b .values))
     read-on =
         ap (λ (at : ℕ). after (read t) (unread (opening t .values)) (eightsOf (over j at (inOne es)) (held .count + length es))) (held .used)
-        ∙ ap (after (read t) (unread (opening t .values))) (put-after j (held .count) es es-long (omega (arith, held .used, held .most, room-most (length j) .0)) (held .count + length es) refl)
+        ∙ ap (after (read t) (unread (opening t .values))) (put-after j (held .count) es es-long (omega (arith, held .used, held .most, room-within (length j))) (held .count + length es) refl)
         ∙ after-two (read t) (unread (opening t .values)) (eightsOf j (held .count)) es
         ∙ ap (λ (at : Reading). after (read t) at es) (held .told)
         ∙ ap (λ (m : ℕ). after (read t) (clean (b .number .0) (b .values)) (entry (k .written) (copyOf k) m)) numbered
@@ -327,7 +327,7 @@ zero-front (suc n) x zero h = refl
 zero-front (suc n) x (suc k) h = zero-front n x k (omega arith)
 
 cleared-long : (j : List ℕ) → length (cleared j) ≡ length j
-cleared-long j = length-append (replicate (room (length j)) 0) (drop (room (length j)) j) ∙ rw (length-replicate, length-drop) (omega (arith, room-most (length j) .0))
+cleared-long j = length-append (replicate (room (length j)) 0) (drop (room (length j)) j) ∙ rw (length-replicate, length-drop) (omega (arith, room-within (length j)))
 
 pub opened-held : (t journal : List ℕ) → Held t (opened t journal)
 unfolding opening eightsOf

@@ -4,8 +4,9 @@ use mathlib.Core.Path.{_≡_, sym, ap}
 use native.Mathlib.Omega.{arith}
 use lib.ListN.{length}
 use Rattle.records.specs.Records.{sizeOf, room}
+use Rattle.records.proofs.Sizes.{room-within}
 use Rattle.records.proofs.Appended.{over-none}
-use Rattle.journal.proofs.Room.{room-most, limited-room, no-commit}
+use Rattle.journal.proofs.Room.{limited-room, no-commit}
 use borrow.Author.Needs.{needs}
 use Rattle.journal.proofs.recorded.Statement.{statement}
 use Rattle.journal.proofs.recorded.Tie as tie
@@ -17,7 +18,7 @@ append-requires : tie.Need-append-requires
 append-requires c κs =
     let start = c .before .before .before .before .before in
     let a = start .args in
-    omega (arith, limited-room (a .used + sizeOf (a .k .written)) (room (length (a .journal .now))) _ (rw (c .before .before .answer .given .1) at (start .pre)), room-most (length (a .journal .now)) .0)
+    omega (arith, limited-room (a .used + sizeOf (a .k .written)) (room (length (a .journal .now))) _ (rw (c .before .before .answer .given .1) at (start .pre)), room-within (length (a .journal .now)))
 
 same-length : tie.Need-same-length
 same-length c = search needs

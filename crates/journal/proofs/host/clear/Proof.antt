@@ -7,7 +7,7 @@ use native.Mathlib.Numerals.{add-one}
 use lib.ListN.{length, drop, getD, set, replicate, length-set, length-replicate}
 use lib.Seq.{drop-cons, set-at}
 use Rattle.records.specs.Records.{room}
-use Rattle.journal.proofs.Room.{room-most}
+use Rattle.records.proofs.Sizes.{room-within}
 use borrow.Author.Needs.{needs}
 use Rattle.journal.proofs.host.clear.Statement.{statement}
 use Rattle.journal.proofs.host.clear.Tie as tie
@@ -36,7 +36,7 @@ loop-holds : tie.Need-loop-holds Inv-loop μ-loop
 loop-holds c = (omega arith, refl, refl)
 
 slice-write-journal : tie.Need-slice-write-journal Inv-loop μ-loop
-slice-write-journal c = omega (arith, c .before .before .room .ensures, room-most (length (c .before .before .before .before .args .journal .now)) .0)
+slice-write-journal c = omega (arith, c .before .before .room .ensures, room-within (length (c .before .before .before .before .args .journal .now)))
 
 add-i : tie.Need-add-i Inv-loop μ-loop
 add-i c = search needs
@@ -49,7 +49,7 @@ loop-again c =
     let l = c .before in
     let j = l .before .before .before .args .journal .now in (
       omega arith,
-      ap (λ (d : List ℕ). set d (l .loop .i) 0) (l .loop .inv .1) ∙ one-more j (l .loop .i) (omega (arith, l .before .room .ensures, room-most (length j) .0)),
+      ap (λ (d : List ℕ). set d (l .loop .i) 0) (l .loop .inv .1) ∙ one-more j (l .loop .i) (omega (arith, l .before .room .ensures, room-within (length j))),
       simp length-set (l .loop .inv .2),
     )
 
