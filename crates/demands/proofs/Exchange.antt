@@ -74,7 +74,7 @@ module _ (b : Board) (p q : List ℕ) (sound : Sound b) where
         items = m .items;
       })
 
-  pair : Apart b (decode p) (decode q) → Commute next reply b p q
+  pub pair : Apart b (decode p) (decode q) → Commute next reply b p q
   unfolding step
   pair m = let c = shapes (shape p) (shape q) m in record { board = c .board; first = c .first; second = c .second }
 

@@ -27,16 +27,18 @@ use Rattle.journal.specs.Reached.{Call, called, EightEach, Reached}
 use Rattle.journal.specs.declared.Journaled.{Journaled}
 use Rattle.journal.proofs.Room.{limited-ways, limited-room, limited-twice, added-size}
 
--- what is used after an answer that stands
-used-most : (k : Desk) (used n : ℕ) (a : Answer) → limited (used + sizeOf (k .written)) (room n) a ≡ a → used ≤ 65536 → used + length (added k a) ≤ 65536
-used-most k used n (Refused m) e h = omega arith
-used-most k used n (Opened a s) e h = omega arith
-used-most k used n (Value i v) e h = omega arith
-used-most k used n (Stored i) e h = omega arith
-used-most k used n (Wait i f) e h = omega arith
-used-most k used n (Committed m) e h = omega (arith, added-size k m, limited-room (used + sizeOf (k .written)) (room n) m e, room-most n)
-used-most k used n Abandoned e h = omega arith
-used-most k used n (Aborted w) e h = omega arith
+-- what is used after an answer that stands is within any bound of what was used before it and of the room
+pub used-most :
+    (k : Desk) (used most bound : ℕ) (a : Answer) → limited (used + sizeOf (k .written)) most a ≡ a → used ≤ bound → most ≤ bound
+    → used + length (added k a) ≤ bound
+used-most k used most bound (Refused m) e h r = omega arith
+used-most k used most bound (Opened a s) e h r = omega arith
+used-most k used most bound (Value i v) e h r = omega arith
+used-most k used most bound (Stored i) e h r = omega arith
+used-most k used most bound (Wait i f) e h r = omega arith
+used-most k used most bound (Committed m) e h r = omega (arith, added-size k m, limited-room (used + sizeOf (k .written)) most m e)
+used-most k used most bound Abandoned e h r = omega arith
+used-most k used most bound (Aborted w) e h r = omega arith
 
 -- the item of an answer is one of the 64
 pub answer-in-item : (s : Journaled) (n : ℕ) (q : Decoded) → itemOf (answerIn s n q) < 64
@@ -54,7 +56,7 @@ call-fine s n q eight fine =
     let d = decode q in
     let need = s .used + sizeOf (asking s d .written) in (
       limited-ways need (room n) (λ (a : Answer). Board.Reached (follow (s .board) d a)) (Rules.answer (s .board) d) (reached-step (fine .0) q eight) (λ _ _ _. fine .0),
-      used-most (asking s d) (s .used) n (answerIn s n d) (limited-twice need (room n) (Rules.answer (s .board) d)) (fine .1),
+      used-most (asking s d) (s .used) (room n) 65536 (answerIn s n d) (limited-twice need (room n) (Rules.answer (s .board) d)) (fine .1) (room-most n),
     )
 
 calls-fine : (cs : List Call) → EightEach cs → (s : Journaled) → Fine s → Fine (after called s cs)

@@ -1,7 +1,7 @@
 -- The room for a commit's records.
 use Prim.Native.Nat.{ℕ, _≤_, _<_}
 use mathlib.Core.Path.{_≡_, refl, ap}
-use mathlib.Core.Bool.{Bool, true, false}
+use mathlib.Core.Bool.{true}
 use mathlib.Core.List.{List, [], _∷_}
 use types.Run.{OneOf, miss}
 use denote.Enum.Declared.{tagOf}
@@ -17,17 +17,7 @@ use Rattle.desks.specs.Desks.{copyOf}
 use Rattle.desks.specs.declared.Desk.{Desk}
 use Rattle.records.specs.Records.{sizeOf}
 use Rattle.records.proofs.Sizes.{entry-length}
-use Rattle.journal.specs.Journal.{limited, added}
-
-abbrev commits : Answer → Bool
-commits (Refused n) = false
-commits (Opened a s) = false
-commits (Value i v) = false
-commits (Stored i) = false
-commits (Wait i e) = false
-commits (Committed n) = true
-commits Abandoned = false
-commits (Aborted w) = false
+use Rattle.journal.specs.Journal.{commits, limited, added}
 
 module _ (need most : ℕ) where
   -- a fact of the answer, and of the refusal where room lacks

@@ -1,7 +1,7 @@
 -- The board with a journal of its commits. The board's answer comes first; then the room for the records of a commit is tested; then the
 -- board follows, and the records are put into the journal.
 use Prim.Native.Nat.{ℕ, _+_}
-use mathlib.Core.Bool.{cond}
+use mathlib.Core.Bool.{Bool, true, false, cond, _&&_}
 use mathlib.Core.List.{List, [], _++_}
 use lib.Dec.{ltb}
 use lib.ListN.{length, drop, replicate}
@@ -18,16 +18,20 @@ use Rattle.journal.specs.declared.Stepped.{Stepped}
 
 -- ---- the answer
 
+-- it is a commit
+abbrev pub commits : Answer → Bool
+commits (Refused n) = false
+commits (Opened a s) = false
+commits (Value i v) = false
+commits (Stored i) = false
+commits (Wait i e) = false
+commits (Committed n) = true
+commits Abandoned = false
+commits (Aborted w) = false
+
 -- an end that would commit but lacks room for all its records is refused; with them, `need` bytes would be used
 abbrev pub limited : ℕ → ℕ → Answer → Answer
-limited need room (Refused n) = Refused n
-limited need room (Opened a s) = Opened a s
-limited need room (Value i v) = Value i v
-limited need room (Stored i) = Stored i
-limited need room (Wait i e) = Wait i e
-limited need room (Committed n) = cond (ltb room need) (Refused 15) (Committed n)
-limited need room Abandoned = Abandoned
-limited need room (Aborted w) = Aborted w
+limited need room a = cond (commits a && ltb room need) (Refused 15) a
 
 -- the desk that asks
 abbrev pub asking : Journaled → Decoded → Desk

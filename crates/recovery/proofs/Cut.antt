@@ -25,10 +25,11 @@ use Rattle.restart.specs.Restarts.{freshWith}
 use Rattle.restart.proofs.Restarts.{restarted-opens}
 use Rattle.restart.specs.declared.reading.Reading.{Reading}
 use Rattle.recovery.specs.Cuts.{within, boardWithin, Cuts, Resumes}
+use Rattle.recovery.proofs.Growth.{kept-next}
 use Rattle.recovery.proofs.Pieces.{same-front}
 use Rattle.recovery.proofs.Quiet.{Same, quiet}
 use Rattle.recovery.proofs.Entry.{clean}
-use Rattle.recovery.proofs.Held.{Held, held-step, written-step, opened-held}
+use Rattle.recovery.proofs.Held.{Held, held-step, items-step, opened-held}
 
 -- as many commits are whole as b has numbers, with its values
 abbrev Tells : Board → Reading → Type 0
@@ -45,16 +46,16 @@ module _ (t : List ℕ) (bytes : Bytes 1024 t) where
   -- a run keeps the bytes that are used
   run-long : (qs : List (List ℕ)) (l : Ledger) → Held t l → length (after next l qs .journal) ≡ length (l .journal)
   run-long [] l held = refl
-  run-long (q ∷ qs) l held = run-long qs (next l q) (held-step t bytes l held q) ∙ written-step t bytes l held q .long
+  run-long (q ∷ qs) l held = run-long qs (next l q) (held-step t bytes l held q) ∙ kept-next l q (held .most) .as-long
 
   run-front : (qs : List (List ℕ)) (l : Ledger) → Held t l → take (l .kept .used) (after next l qs .journal) ≡ take (l .kept .used) (l .journal)
   run-front [] l held = refl
   run-front (q ∷ qs) l held =
       let then = next l q in
-      let w = written-step t bytes l held q in
+      let w = kept-next l q (held .most) in
       let u = l .kept .used in
       sym (take-take u (then .kept .used) (after next then qs .journal) (w .grows)) ∙ ap (take u) (run-front qs then (held-step t bytes l held q))
-      ∙ take-take u (then .kept .used) (then .journal) (w .grows) ∙ w .front
+      ∙ take-take u (then .kept .used) (then .journal) (w .grows) ∙ w .before
 
   -- of a journal that begins with l's records, and then has none that closes a commit
   tells-on : (l : Ledger) (held : Held t l) (j : List ℕ) (n : ℕ) → held .count ≤ n → eightsOf j (held .count) ≡ eightsOf (l .journal) (held .count)
@@ -79,13 +80,13 @@ module _ (t : List ℕ) (bytes : Bytes 1024 t) where
     cut-run (q ∷ qs) l held from most all =
         let then = next l q in
         let held′ = held-step t bytes l held q in
-        let w = written-step t bytes l held q in
+        let w = kept-next l q (held .most) in
         let j = after next then qs .journal in
         by-test (leb (then .kept .used) cut)
         (λ yes.
         let on : within cut l (q ∷ qs) ≡ q ∷ within cut then qs = rw yes in
         subst (λ (rs : List (List ℕ)). Tells (after next l rs .kept .board) (readOf j n)) (sym on)
-        (cut-run qs then held′ (leb-true (then .kept .used) cut yes) (rw (w .long) most) (λ k a c. all k (rw (w .long) at a) c)))
+        (cut-run qs then held′ (leb-true (then .kept .used) cut yes) (rw (w .as-long) most) (λ k a c. all k (rw (w .as-long) at a) c)))
         (λ no.
         let none : within cut l (q ∷ qs) ≡ [] = rw no in
         let past : cut < then .kept .used = leb-false (then .kept .used) cut no in
@@ -100,7 +101,7 @@ module _ (t : List ℕ) (bytes : Bytes 1024 t) where
         let at = 8 * k in
         let there : at < then .kept .used = omega arith in
         let same : byte j at ≡ byte (then .journal) at = sym (getD-take (then .kept .used) j at 0 there) ∙ ap (λ (r : List ℕ). byte r at) (run-front qs then held′) ∙ getD-take (then .kept .used) (then .journal) at 0 there in
-        absurd (omega (arith, two, same, w .items k (omega (arith, held .used)) (omega arith))))))
+        absurd (omega (arith, two, same, items-step t bytes l held q k (omega (arith, held .used)) (omega arith))))))
 
 -- ---- a cut
 

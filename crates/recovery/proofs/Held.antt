@@ -37,6 +37,7 @@ use Rattle.journal.specs.Journal.{limited, asking, answerIn, added, step, journ
 use Rattle.journal.proofs.Room.{limited-ways, limited-room, limited-twice, added-size}
 use Rattle.restart.specs.Restart.{unread, read}
 use Rattle.restart.specs.declared.reading.Reading.{Reading}
+use Rattle.recovery.proofs.Step.{followed}
 use Rattle.recovery.proofs.Pieces.{put-after, long-more}
 use Rattle.recovery.proofs.Entry.{clean, after-two, entry-read}
 use Rattle.recovery.proofs.Copies.{Copied, Stores, answer-stores, follow-copied, opening-copied}
@@ -101,21 +102,7 @@ marked-byte (r ∷ rs) m x (suc i) h =
     ap (λ (l : List ℕ). byte l (8 * suc i)) (append-assoc r (inOne rs) x) ∙ ap (byte (r ++ (inOne rs ++ x))) at ∙ getD-append-add r (inOne rs ++ x) (8 * i) 0
     ∙ marked-byte rs (m .1) x i (omega (arith, inOne-length rs (marked-long rs (m .1)), inOne-length (r ∷ rs) (marked-long (r ∷ rs) m)))
 
--- what stands before a piece put into a buffer
-over-front : (j : List ℕ) (at : ℕ) (s : List ℕ) → at ≤ length j → take at (over j at s) ≡ take at j
-over-front j at s h =
-    ap (take at) (over-is j at s ∙ append-assoc (take at j) s (drop (at + length s) j)) ∙ take-at (take at j) (s ++ drop (at + length s) j) at (length-take-le at j h)
-
 -- ---- one request
-
--- the board and the journal after an answer
-abbrev ledgerAfter : Ledger → Decoded → Answer → Ledger
-ledgerAfter l q a =
-    let k = asking (l .kept) q in
-    record {
-      kept = record { board = follow (l .kept .board) q a; used = l .kept .used + length (added k a) };
-      journal = over (l .journal) (l .kept .used) (added k a);
-    }
 
 -- what is so of the answer that is given, with this much room
 pub record Given (l : Ledger) (q : Decoded) (a : Answer) : Type 0 where
@@ -150,12 +137,9 @@ pub record Held (t : List ℕ) (l : Ledger) : Type 0 where
   pub zeros : (k : ℕ) → l .kept .used ≤ k → k < room (length (l .journal)) → byte (l .journal) k ≡ 0
   pub told : after (read t) (unread (opening t .values)) (eightsOf (l .journal) count) ≡ clean (l .kept .board .number .0) (l .kept .board .values)
 
--- what one request leaves of the journal
-pub record Written (l then : Ledger) : Type 0 where
-  pub long : length (then .journal) ≡ length (l .journal)
-  pub grows : l .kept .used ≤ then .kept .used
-  pub front : take (l .kept .used) (then .journal) ≡ take (l .kept .used) (l .journal)
-  pub items : (k : ℕ) → l .kept .used ≤ 8 * k → 8 * k + 8 < then .kept .used → byte (then .journal) (8 * k) ≡ 1
+-- of the bytes that one request adds, each record but the last begins with 1
+abbrev pub ItemsFirst : Ledger → Ledger → Type 0
+ItemsFirst l then = (k : ℕ) → l .kept .used ≤ 8 * k → 8 * k + 8 < then .kept .used → byte (then .journal) (8 * k) ≡ 1
 
 -- the limits, in the table's words
 floor-at : (t : List ℕ) (i : ℕ) → i < 64 → getD (opening t .floors) i 0 ≡ floorAt t i
@@ -202,7 +186,7 @@ module _ (t : List ℕ) (bytes : Bytes 1024 t) (l : Ledger) (held : Held t l) (q
     as-was : over j used (added k a) ≡ j
     as-was = ap (over j used) none ∙ over-none j used
 
-    calm-held : Given l q a → Held t (ledgerAfter l q a)
+    calm-held : Given l q a → Held t (followed l q a)
     calm-held g =
         record {
           sound = g .sound;
@@ -216,14 +200,8 @@ module _ (t : List ℕ) (bytes : Bytes 1024 t) (l : Ledger) (held : Held t l) (q
           told = ap (λ (s : List ℕ). after (read t) (unread (opening t .values)) (eightsOf s (held .count))) as-was ∙ held .told ∙ (λ i. clean (sym number i .0) (sym values i));
         }
 
-    calm-written : Written l (ledgerAfter l q a)
-    calm-written =
-        record {
-          long = ap length as-was;
-          grows = omega arith;
-          front = ap (take used) as-was;
-          items = λ i low high. absurd (omega (arith, as-used));
-        }
+    calm-items : ItemsFirst l (followed l q a)
+    calm-items i from to = absurd (omega (arith, as-used))
 
   -- where a commit's records are
   module _ (n : Number) (g : Given l q (Committed n)) where
@@ -266,7 +244,7 @@ module _ (t : List ℕ) (bytes : Bytes 1024 t) (l : Ledger) (held : Held t l) (q
         ∙ entry-read t (k .written) (copyOf k) (b .number .0) (b .values) below floor ceiling small
         ∙ ap (λ (m : ℕ). clean m (Rules.installed (k .written) (copyOf k) (b .values))) (sym numbered)
 
-    commit-held : Held t (ledgerAfter l q (Committed n))
+    commit-held : Held t (followed l q (Committed n))
     unfolding follow
     commit-held =
         record {
@@ -285,7 +263,7 @@ module _ (t : List ℕ) (bytes : Bytes 1024 t) (l : Ledger) (held : Held t l) (q
     closing : List ℕ
     closing = recordOf 2 0 (n .0) (countBelow (k .written) 64)
 
-    item-byte : (i : ℕ) → used ≤ 8 * i → 8 * i + 8 < used + length (inOne es) → byte (over j used (inOne es)) (8 * i) ≡ 1
+    item-byte : ItemsFirst l (followed l q (Committed n))
     unfolding closing
     item-byte i from to =
         let m = i - held .count in
@@ -295,30 +273,21 @@ module _ (t : List ℕ) (bytes : Bytes 1024 t) (l : Ledger) (held : Held t l) (q
         ap (byte (over j used (inOne es))) at ∙ over-inside j used (inOne es) (omega (arith, fits-long)) (8 * m) (omega arith)
         ∙ ap (λ (s : List ℕ). byte s (8 * m)) two ∙ marked-byte items (items-marked (k .written) (copyOf k) (n .0) 64) (inOne (closing ∷ [])) m (omega arith)
 
-    commit-written : Written l (ledgerAfter l q (Committed n))
-    commit-written =
-        record {
-          long = same-long;
-          grows = omega arith;
-          front = over-front j used (inOne es) (omega (arith, fits-long));
-          items = λ i from to. item-byte i from to;
-        }
-
 -- ---- every request, and the opening
 
 module _ (t : List ℕ) (bytes : Bytes 1024 t) (l : Ledger) (held : Held t l) (q : List ℕ) where
   pub held-step : Held t (next l q)
   unfolding step journalAfter
   held-step =
-      by-commit (λ (a : Answer). Given l (decode q) a → Held t (ledgerAfter l (decode q) a)) (l .kept .board) (decode q) (asking (l .kept) (decode q))
+      by-commit (λ (a : Answer). Given l (decode q) a → Held t (followed l (decode q) a)) (l .kept .board) (decode q) (asking (l .kept) (decode q))
       (calm-held t bytes l held (decode q) (desk-low q)) (commit-held t bytes l held (decode q) (desk-low q))
       (answerIn (l .kept) (length (l .journal)) (decode q)) (given l q (held .sound))
 
-  pub written-step : Written l (next l q)
+  pub items-step : ItemsFirst l (next l q)
   unfolding step journalAfter
-  written-step =
-      by-commit (λ (a : Answer). Given l (decode q) a → Written l (ledgerAfter l (decode q) a)) (l .kept .board) (decode q) (asking (l .kept) (decode q))
-      (λ a values number none g. calm-written t bytes l held (decode q) (desk-low q) a values number none) (commit-written t bytes l held (decode q) (desk-low q))
+  items-step =
+      by-commit (λ (a : Answer). Given l (decode q) a → ItemsFirst l (followed l (decode q) a)) (l .kept .board) (decode q) (asking (l .kept) (decode q))
+      (λ a values number none g. calm-items t bytes l held (decode q) (desk-low q) a values number none) (item-byte t bytes l held (decode q) (desk-low q))
       (answerIn (l .kept) (length (l .journal)) (decode q)) (given l q (held .sound))
 
 zero-front : (n : ℕ) (x : List ℕ) (k : ℕ) → k < n → getD (replicate n 0 ++ x) k 0 ≡ 0

@@ -1,1 +1,2 @@
+pub mod Journaled
 pub mod Cuts

@@ -31,7 +31,9 @@ returns-2 c =
     rw (c .before .before .before .answer .given .1, le-ltb (a .room) (a .used + sizeOf (a .written)) (omega (arith, c .before .size .ensures)))
 
 returns-3 : tie.Need-returns-3
-returns-3 c = sym (no-commit _ _ idle (c .before .args .answer) (c .match .keys2) .0)
+returns-3 c =
+    let a = c .before .args in
+    sym (no-commit (a .used + sizeOf (a .written)) (a .room) idle (a .answer) (c .match .keys2) .0)
 
 pub limited-spec : {M : Type 1} → statement M
 limited-spec =
