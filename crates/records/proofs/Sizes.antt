@@ -1,7 +1,7 @@
 -- How long a commit's records are: 8 bytes for each item written, and 8.
 use Prim.Native.Nat.{ℕ, zero, suc, _+_, _*_, _≤_}
-use mathlib.Core.Path.{_≡_, refl, ap, _∙_}
-use mathlib.Core.Bool.{Bool, true, false, cond}
+use mathlib.Core.Path.{_≡_, refl}
+use mathlib.Core.Bool.{cond}
 use mathlib.Core.List.{List, [], _∷_, _++_, append-assoc}
 use native.Mathlib.Omega.{arith}
 use native.Mathlib.Numerals.{add-one}
@@ -12,7 +12,7 @@ use Rattle.items.specs.Items.{has}
 use Rattle.items.specs.declared.Items.{Items}
 use Rattle.items.proofs.Tests.{by-test, by-cond, by-equal}
 use Rattle.lent.specs.Pieces.{inOne}
-use Rattle.records.specs.Records.{countBelow, itemRecord, itemRecords, recordOf, entry, sizeOf, room}
+use Rattle.records.specs.Records.{countBelow, itemRecord, itemRecords, entry, sizeOf, room}
 
 -- pieces in one, one after another
 pub inOne-append : (ps qs : List (List ℕ)) → inOne (ps ++ qs) ≡ inOne ps ++ inOne qs

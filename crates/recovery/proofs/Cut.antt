@@ -1,8 +1,7 @@
 -- The restart after any cut: it reads the records that are whole within the cut, and those that close nothing leave what was read before them.
-use Prim.Native.Nat.{ℕ, _+_, _*_, _/_, _≤_, _<_}
+use Prim.Native.Nat.{ℕ, _*_, _/_, _≤_, _<_}
 use mathlib.Core.Path.{_≡_, refl, ap, sym, _∙_, subst}
 use mathlib.Core.Logic.{_≢_}
-use mathlib.Core.Bool.{true, false}
 use mathlib.Core.List.{List, [], _∷_}
 use native.Mathlib.Omega.{arith}
 use borrow.Author.Tests.{leb-true, leb-false}
@@ -13,7 +12,6 @@ use lib.Seq.{take-take, take-all, length-take-le, getD-take}
 use Rattle.items.proofs.Tests.{by-test, by-cond}
 use Rattle.runs.specs.Runs.{after}
 use Rattle.words.specs.Bytes.{Bytes, byte}
-use Rattle.wire.specs.Table.{wrong}
 use Rattle.board.specs.Opening.{opening}
 use Rattle.board.specs.declared.Board.{Board}
 use Rattle.lent.specs.Pieces.{eightsOf}
@@ -27,8 +25,7 @@ use Rattle.restart.specs.declared.reading.Reading.{Reading}
 use Rattle.recovery.specs.Cuts.{within, boardWithin, Cuts, Resumes}
 use Rattle.recovery.proofs.Growth.{kept-next}
 use Rattle.recovery.proofs.Pieces.{same-front}
-use Rattle.recovery.proofs.Quiet.{Same, quiet}
-use Rattle.recovery.proofs.Entry.{clean}
+use Rattle.recovery.proofs.Quiet.{quiet}
 use Rattle.recovery.proofs.Held.{Held, held-step, items-step, opened-held}
 
 -- as many commits are whole as b has numbers, with its values

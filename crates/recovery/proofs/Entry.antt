@@ -1,22 +1,20 @@
 -- What is read of a commit's records: the commit is whole, and the values are those with its copies installed.
 use Prim.Native.Nat.{ℕ, zero, suc, _+_, _*_, _/_, _%_, _≤_, _<_}
 use mathlib.Core.Path.{_≡_, refl, ap, sym, _∙_}
-use mathlib.Core.Bool.{true, false, cond}
+use mathlib.Core.Bool.{true, false}
 use mathlib.Core.List.{List, [], _∷_, _++_}
 use native.Mathlib.Omega.{arith}
 use borrow.Author.Tests.{eq-eqb, le-leb}
-use lib.ListN.{length, set}
 use Rattle.items.specs.Items.{has}
 use Rattle.items.specs.declared.Items.{Items}
 use Rattle.items.proofs.Tests.{by-test}
 use Rattle.runs.specs.Runs.{after}
-use Rattle.words.specs.Bytes.{byte}
 use Rattle.words.proofs.Fours.{four-tell}
 use Rattle.wire.specs.Table.{floorAt, ceilingAt}
 use Rattle.board.specs.Rules.{filled, installed}
 use Rattle.records.specs.Records.{recordOf, countBelow, itemRecord, itemRecords, entry}
 use Rattle.records.proofs.Sizes.{count-below}
-use Rattle.restart.specs.Restart.{numberIn, valueIn, fitsItem, fitsClosing, read}
+use Rattle.restart.specs.Restart.{valueIn, fitsItem, fitsClosing, read}
 use Rattle.restart.specs.declared.reading.Reading.{Reading}
 use Rattle.restart.proofs.Fitting.{by-ceiling, by-count, no-item}
 use Rattle.restart.proofs.Steps.{takes, closes}

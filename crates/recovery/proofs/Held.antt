@@ -1,11 +1,11 @@
 -- What a journal holds after any run: the records of the commits, from which the board's number and values are read; and zeros.
 use Prim.Native.Nat.{ℕ, zero, suc, _+_, _-_, _*_, _≤_, _<_}
 use mathlib.Core.Path.{_≡_, refl, ap, sym, _∙_, subst}
-use mathlib.Core.Bool.{true, false, cond}
+use mathlib.Core.Bool.{true}
 use mathlib.Core.List.{List, [], _∷_, _++_, append-assoc}
 use native.Mathlib.Omega.{arith}
-use lib.ListN.{length, take, drop, getD, replicate, length-append, length-replicate, length-drop}
-use lib.Seq.{take-at, length-take-le, getD-append-add}
+use lib.ListN.{length, drop, getD, replicate, length-append, length-replicate, length-drop}
+use lib.Seq.{getD-append-add}
 use Rattle.items.specs.Items.{has}
 use Rattle.items.specs.declared.Items.{Items}
 use Rattle.items.proofs.Tests.{by-test}
@@ -20,8 +20,8 @@ use Rattle.wire.specs.declared.Answer.the-variants.{Refused, Opened, Value, Sto
 use Rattle.desks.specs.Desks.{copyOf}
 use Rattle.desks.specs.declared.Desk.{Desk}
 use Rattle.board.specs.Rules as Rules
-use Rattle.board.specs.Rules.{deskAt, follow}
-use Rattle.board.specs.Opening.{opening, column}
+use Rattle.board.specs.Rules.{follow}
+use Rattle.board.specs.Opening.{opening}
 use Rattle.board.specs.declared.Board.{Board}
 use Rattle.board.proofs.Filled.{column-at}
 use Rattle.board.proofs.Sound.{Sound, opening-sound, step-sound}
@@ -30,9 +30,9 @@ use Rattle.board.proofs.Bounds.{desk-low}
 use Rattle.board.proofs.Granted.{Granted, answer-granted}
 use Rattle.lent.specs.Pieces.{eightsOf, inOne}
 use Rattle.lent.proofs.InOne.{EightLong, inOne-length}
-use Rattle.records.specs.Records.{recordOf, countBelow, itemRecord, itemRecords, entry, recordsOf, sizeOf, room, over}
-use Rattle.records.proofs.Appended.{over-is, over-none, over-length, over-inside, over-after}
-use Rattle.records.proofs.Sizes.{inOne-append, items-length, room-within}
+use Rattle.records.specs.Records.{recordOf, countBelow, itemRecord, itemRecords, entry, sizeOf, room, over}
+use Rattle.records.proofs.Appended.{over-none, over-length, over-inside, over-after}
+use Rattle.records.proofs.Sizes.{inOne-append, room-within}
 use Rattle.journal.specs.Journal.{limited, asking, answerIn, added, step, journalAfter, cleared, Ledger, opened, next}
 use Rattle.journal.proofs.Room.{limited-ways, limited-room, limited-twice, added-size}
 use Rattle.restart.specs.Restart.{unread, read}

@@ -1,6 +1,6 @@
 -- A commit has room for its records; any other answer adds nothing.
 use Prim.Native.Nat.{_+_}
-use mathlib.Core.Path.{_≡_, sym, ap}
+use mathlib.Core.Path.{sym}
 use native.Mathlib.Omega.{arith}
 use lib.ListN.{length}
 use Rattle.records.specs.Records.{sizeOf, room}

@@ -16,7 +16,6 @@ use Rattle.journal.specs.Journal.{Ledger, next, reply, journalAfter}
 use Rattle.journal.specs.Reached.{Reached}
 use Rattle.journal.specs.Run.{steppedBy}
 use Rattle.journal.specs.declared.host.Told.{Told}
-use Rattle.journal.specs.declared.Journaled.{Journaled}
 use Rattle.journal.proofs.Kept.{reached-call}
 use Rattle.journal.proofs.run.serve.Statement.{statement}
 use Rattle.journal.proofs.run.serve.Tie as tie
