@@ -1,4 +1,4 @@
--- The step meets the rules, and what every board that a run leaves has in common. What is demanded of runs is the crate demands.
+-- What every board that a run leaves has in common, and what the code of answering and stepping leans on. What is demanded of runs is the crate demands.
 --   Filled, Stale           the laws of two of the rules' functions
 --   Decided, Validated      the answers way by way, as the code decides them
 --   Granted, Bounds         what an answer tells of the board that gave it; the desk and the item are in range

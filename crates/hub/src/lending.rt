@@ -1,7 +1,7 @@
 // One board record is lent to each call and altered there.
 use board::Board;
 use board::Stepped;
-use board::step;
+use stepping::step;
 use wire::Answer;
 ghost use mathlib.Core.Path.{_≡_};
 ghost use Rattle.board.specs.Rules.{step};

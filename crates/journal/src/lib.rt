@@ -3,14 +3,14 @@
 pub mod host;
 pub mod run;
 
+use answering::answer;
 use board::Board;
-use board::answering::answer;
-use board::following::follow;
 use desks::Desk;
 use items::Items;
 use records::append;
 use records::room;
 use records::size;
+use stepping::following::follow;
 use wire::Answer;
 use wire::requests::decode;
 use wire::requests::desk_of;

@@ -25,9 +25,9 @@ use Rattle.wire.proofs.Answer as N
 use Rattle.wire.proofs.Answer.Laws as N′
 use Rattle.board.proofs.Stepped as S
 use Rattle.board.proofs.Stepped.Laws as S′
-use Rattle.board.proofs.step.Symbol as step-def
-use Rattle.board.proofs.step.Symbol.{name as #board·step}
-use Rattle.board.proofs.step.Met as step-thm
+use Rattle.stepping.proofs.step.Symbol as step-def
+use Rattle.stepping.proofs.step.Symbol.{name as #stepping·step}
+use Rattle.stepping.proofs.step.Met as step-thm
 use Rattle.hub.proofs.lending.step_in.Key.{name as #hub·step-in}
 use Rattle.hub.proofs.lending.step_in as step-in
 use Rattle.hub.proofs.lending.step_in.Statement as stated
@@ -69,5 +69,5 @@ unfolding code.routine tablesOf
 step-in-spec 𝓤 H 𝓜 𝓖 𝓡 =
     entered 𝓤 H (tripleOf 𝓤 H (𝓖 .A) step-in.signature (step-in.spec 𝓤 H (𝓖 .A) (𝓜 .mem) (𝓡 .run)))
     (tables 𝓤 H 𝓜 𝓡 code.env .C) (tables 𝓤 H 𝓜 𝓡 code.env .Λ) #hub·step-in code.function (code.unfolded 𝓤 H 𝓜 𝓡)
-    (wraps it 𝓤 H (𝓖 .A) (givenOf 𝓤 H 𝓜 𝓖) (tablesOf 𝓤 H 𝓜 (tables 𝓤 H 𝓜 𝓡 code.env)) #board·step
-    (cited 𝓤 H (Wrapped it 𝓤 H (𝓖 .A)) 𝓜 𝓡 code.env #board·step step-def.routine code.calls-board·step (step-thm.met 𝓤 H 𝓜 𝓖 𝓡)))
+    (wraps it 𝓤 H (𝓖 .A) (givenOf 𝓤 H 𝓜 𝓖) (tablesOf 𝓤 H 𝓜 (tables 𝓤 H 𝓜 𝓡 code.env)) #stepping·step
+    (cited 𝓤 H (Wrapped it 𝓤 H (𝓖 .A)) 𝓜 𝓡 code.env #stepping·step step-def.routine code.calls-stepping·step (step-thm.met 𝓤 H 𝓜 𝓖 𝓡)))

@@ -1,0 +1,171 @@
+// What is answered to a request: checks 4 to 9 in their order, then the locks or the end's validation. The board is only read.
+mod validation;
+
+use crate::validation::first_stale;
+use board::Board;
+use desks::Desk;
+use desks::locks::locked;
+use wire::Answer;
+use wire::Decoded;
+use wire::Reason;
+use wire::Request;
+ghost use mathlib.Core.Path.{_≡_};
+ghost use Prim.Native.Nat.{_<_};
+ghost use Rattle.wire.specs.Checks.{firstFailing};
+ghost use Rattle.wire.specs.Requests.{deskOf};
+ghost use Rattle.wire.specs.declared.Request;
+ghost use Rattle.desks.specs.Desks.{isOpen};
+ghost use Rattle.board.specs.Rules.{itemChecks, seen, answered, answer};
+ghost use Rattle.board.specs.Reached.{Counted};
+
+// A transaction is open: ages begin at 1.
+fn is_open(k: Desk) -> bool
+    ensures { λ r. ⌜ r ≡ isOpen k ⌝ }
+{
+    k.age.0 != 0
+}
+
+fn begin(b: Board, d: usize) -> Answer
+    requires { ⌜ d < 16 ⌝ }
+    ensures { λ r. ⌜ r ≡ answered b d Request.Begin ⌝ }
+{
+    let desks = b.desks;
+    if is_open(desks[d]) {
+        return Answer::Refused(4);
+    }
+    let age = b.age;
+    if age.0 >= 2000 {
+        return Answer::Refused(9);
+    }
+    let start = b.number;
+    Answer::Opened(age.next(), start)
+}
+
+// The desk's own copy if it has written the item, else the board's value.
+fn seen(values: [u32; 64], k: Desk, i: usize) -> u32
+    requires { ⌜ i < 64 ⌝ }
+    ensures { λ r. ⌜ r ≡ seen values k i ⌝ }
+{
+    if k.written.has(i) {
+        let copies = k.copies;
+        return copies[i];
+    }
+    values[i]
+}
+
+// Checks 5 and 6, which a read and a write share: the number of the first that fails, 0 where none does.
+fn item_refusal(k: Desk, i: u8) -> u8
+    ensures { λ r. ⌜ r ≡ firstFailing (itemChecks k i) ⌝ }
+{
+    if !is_open(k) {
+        return 5;
+    }
+    if i > 63 {
+        return 6;
+    }
+    0
+}
+
+fn read(b: Board, d: usize, i: u8) -> Answer
+    requires { ⌜ d < 16 ⌝ }
+    ensures { λ r. ⌜ r ≡ answered b d (Request.Read i) ⌝ }
+{
+    let desks = b.desks;
+    let k = desks[d];
+    let refused = item_refusal(k, i);
+    if refused != 0 {
+        return Answer::Refused(refused);
+    }
+    let values = b.values;
+    let value = seen(values, k, i as usize);
+    locked(desks, b.guarded, d, i, false, Answer::Value(i, value))
+}
+
+fn write(b: Board, d: usize, i: u8, v: u32) -> Answer
+    requires { ⌜ d < 16 ⌝ }
+    ensures { λ r. ⌜ r ≡ answered b d (Request.Write i v) ⌝ }
+{
+    let desks = b.desks;
+    let refused = item_refusal(desks[d], i);
+    if refused != 0 {
+        return Answer::Refused(refused);
+    }
+    let item = i as usize;
+    let floors = b.floors;
+    if v < floors[item] {
+        return Answer::Refused(7);
+    }
+    let ceilings = b.ceilings;
+    if v > ceilings[item] {
+        return Answer::Refused(8);
+    }
+    locked(desks, b.guarded, d, i, true, Answer::Stored(i))
+}
+
+// Commit, or abort as too old or overwritten. It is one function, since the compiler copies the desks once more for each one split off.
+fn end(b: Board, d: usize) -> Answer
+    requires { ⌜ d < 16 ⌝ }
+    requires { ⌜ Counted b ⌝ }
+    ensures { λ r. ⌜ r ≡ answered b d Request.End ⌝ }
+{
+    let desks = b.desks;
+    let k = desks[d];
+    if !is_open(k) {
+        return Answer::Refused(5);
+    }
+    let last = b.number;
+    let number = last.next();
+    if k.read.is_empty() {
+        return Answer::Committed(number);
+    }
+    let start = k.start;
+    if last.since(start) > 16 {
+        return Answer::Aborted(Reason::TooOld(start));
+    }
+    let sets = b.sets;
+    let stale = first_stale(sets, k.read, start, last);
+    if stale.0 > last.0 {
+        return Answer::Committed(number);
+    }
+    let set = sets[stale.place()];
+    let both = set.common(k.read);
+    let item = both.lowest() as u8;
+    Answer::Aborted(Reason::Overwritten(item, stale))
+}
+
+fn abandon(b: Board, d: usize) -> Answer
+    requires { ⌜ d < 16 ⌝ }
+    ensures { λ r. ⌜ r ≡ answered b d Request.Abandon ⌝ }
+{
+    let desks = b.desks;
+    if !is_open(desks[d]) {
+        return Answer::Refused(5);
+    }
+    Answer::Abandoned
+}
+
+// By the kind of the request.
+fn answered(b: Board, d: usize, r: Request) -> Answer
+    requires { ⌜ d < 16 ⌝ }
+    requires { ⌜ Counted b ⌝ }
+    ensures { λ a. ⌜ a ≡ answered b d r ⌝ }
+{
+    match r {
+        Request::Begin => begin(b, d),
+        Request::Read(i) => read(b, d, i),
+        Request::Write(i, v) => write(b, d, i, v),
+        Request::End => end(b, d),
+        Request::Abandon => abandon(b, d),
+    }
+}
+
+pub fn answer(b: Board, asked: Decoded) -> Answer
+    requires { ⌜ deskOf asked < 16 ⌝ }
+    requires { ⌜ Counted b ⌝ }
+    ensures { λ a. ⌜ a ≡ answer b asked ⌝ }
+{
+    match asked {
+        Decoded::Malformed(n) => Answer::Refused(n),
+        Decoded::Asked(d, r) => answered(b, d as usize, r),
+    }
+}

@@ -1,0 +1,214 @@
+-- By the answer: each arm does what the rules do for it.
+use borrow.Author.Needs.{needs}
+use Rattle.board.specs.Rules.{follow}
+use Rattle.stepping.proofs.following.follow.Statement.{statement}
+use Rattle.stepping.proofs.following.follow.Tie as tie
+
+desk-of-requires : tie.Need-desk-of-requires
+desk-of-requires c κs = search needs
+
+enum-told : tie.Need-enum-told
+enum-told c = search needs
+
+enum-known-answer : tie.Need-enum-known-answer
+enum-known-answer c = search needs
+
+opened-requires : tie.Need-opened-requires
+opened-requires c κs = search needs
+
+mul-t17 : tie.Need-mul-t17
+mul-t17 c = search needs
+
+element-set-from-after : tie.Need-element-set-from-after
+element-set-from-after c = search needs
+
+enum-known-answer-2 : tie.Need-enum-known-answer-2
+enum-known-answer-2 c = search needs
+
+cast-item : tie.Need-cast-item
+cast-item c = search needs
+
+mul-reading : tie.Need-mul-reading
+mul-reading c = search needs
+
+element-copy-out-reading : tie.Need-element-copy-out-reading
+element-copy-out-reading c = search needs
+
+has-requires : tie.Need-has-requires
+has-requires c κs = rw (c .before .before .before .answer2 .given .1) at (c .before .before .before .before .before .before .pre .1)
+
+reading-requires : tie.Need-reading-requires
+reading-requires c κs = rw (c .before .before .before .before .answer2 .given .1) at (c .before .before .before .before .before .before .before .pre .1)
+
+mul-t27 : tie.Need-mul-t27
+mul-t27 c = search needs
+
+element-set-from-after-2 : tie.Need-element-set-from-after-2
+element-set-from-after-2 c = search needs
+
+enum-known-answer-3 : tie.Need-enum-known-answer-3
+enum-known-answer-3 c = search needs
+
+mul-writing : tie.Need-mul-writing
+mul-writing c = search needs
+
+element-copy-out-writing : tie.Need-element-copy-out-writing
+element-copy-out-writing c = search needs
+
+cast-writing : tie.Need-cast-writing
+cast-writing c = search needs
+
+value-of-requires : tie.Need-value-of-requires
+value-of-requires c κs = search needs
+
+writing-requires : tie.Need-writing-requires
+writing-requires c κs = rw (c .before .before .before .answer3 .given .1) at (c .before .before .before .before .before .before .pre .1)
+
+mul-t37 : tie.Need-mul-t37
+mul-t37 c = search needs
+
+element-set-from-after-3 : tie.Need-element-set-from-after-3
+element-set-from-after-3 c = search needs
+
+enum-told-2 : tie.Need-enum-told-2
+enum-told-2 c = search needs
+
+enum-known-answer-4 : tie.Need-enum-known-answer-4
+enum-known-answer-4 c = search needs
+
+mul-k : tie.Need-mul-k
+mul-k c = search needs
+
+element-copy-out-k : tie.Need-element-copy-out-k
+element-copy-out-k c = search needs
+
+installed-requires : tie.Need-installed-requires
+installed-requires c κs = search needs
+
+place-requires : tie.Need-place-requires
+place-requires c κs = search needs
+
+mul-written : tie.Need-mul-written
+mul-written c = search needs
+
+element-set-from-written : tie.Need-element-set-from-written
+element-set-from-written c = search needs
+
+idle-requires : tie.Need-idle-requires
+idle-requires c κs = search needs
+
+mul-t44 : tie.Need-mul-t44
+mul-t44 c = search needs
+
+element-set-from-after-4 : tie.Need-element-set-from-after-4
+element-set-from-after-4 c = search needs
+
+enum-told-3 : tie.Need-enum-told-3
+enum-told-3 c = search needs
+
+idle-requires-2 : tie.Need-idle-requires-2
+idle-requires-2 c κs = search needs
+
+mul-t50 : tie.Need-mul-t50
+mul-t50 c = search needs
+
+element-set-from-after-5 : tie.Need-element-set-from-after-5
+element-set-from-after-5 c = search needs
+
+enum-told-4 : tie.Need-enum-told-4
+enum-told-4 c = search needs
+
+idle-requires-3 : tie.Need-idle-requires-3
+idle-requires-3 c κs = search needs
+
+mul-t54 : tie.Need-mul-t54
+mul-t54 c = search needs
+
+element-set-from-after-6 : tie.Need-element-set-from-after-6
+element-set-from-after-6 c = search needs
+
+returns : tie.Need-returns
+unfolding follow
+returns c = rw (c .enum-told .given .1)
+
+returns-2 : tie.Need-returns-2
+unfolding follow
+returns-2 c = rw (c .before .before .answer .given .1, c .before .before .before .before .desk-of .ensures, c .opened .ensures)
+
+returns-3 : tie.Need-returns-3
+unfolding follow
+returns-3 c = rw (c .before .before .before .before .before .answer2 .given .1, c .reading .ensures, c .before .has .ensures, c .before .before .before .before .before .before .before .desk-of .ensures)
+
+returns-4 : tie.Need-returns-4
+unfolding follow
+returns-4 c = rw (c .before .before .before .before .answer3 .given .1, c .writing .ensures, c .before .value-of .ensures, c .before .before .before .before .before .before .desk-of .ensures)
+
+returns-5 : tie.Need-returns-5
+unfolding follow
+returns-5 c = rw (c .enum-told2 .given .1)
+
+returns-6 : tie.Need-returns-6
+unfolding follow
+returns-6 c = rw (c .before .before .before .before .before .before .before .answer4 .given .1, c .idle .ensures, c .before .place .ensures, c .before .before .before .installed .ensures, c .before .before .before .before .before .before .before .before .before .desk-of .ensures)
+
+returns-7 : tie.Need-returns-7
+unfolding follow
+returns-7 c = rw (c .before .enum-told3 .given .1, c .before .before .before .desk-of .ensures, c .idle2 .ensures)
+
+returns-8 : tie.Need-returns-8
+unfolding follow
+returns-8 c = rw (c .before .enum-told4 .given .1, c .before .before .before .desk-of .ensures, c .idle3 .ensures)
+
+pub follow-spec : {M : Type 1} → statement M
+follow-spec =
+    tie.close
+    (tie.spec
+    desk-of-requires
+    enum-told
+    enum-known-answer
+    opened-requires
+    mul-t17
+    element-set-from-after
+    enum-known-answer-2
+    cast-item
+    mul-reading
+    element-copy-out-reading
+    has-requires
+    reading-requires
+    mul-t27
+    element-set-from-after-2
+    enum-known-answer-3
+    mul-writing
+    element-copy-out-writing
+    cast-writing
+    value-of-requires
+    writing-requires
+    mul-t37
+    element-set-from-after-3
+    enum-told-2
+    enum-known-answer-4
+    mul-k
+    element-copy-out-k
+    installed-requires
+    place-requires
+    mul-written
+    element-set-from-written
+    idle-requires
+    mul-t44
+    element-set-from-after-4
+    enum-told-3
+    idle-requires-2
+    mul-t50
+    element-set-from-after-5
+    enum-told-4
+    idle-requires-3
+    mul-t54
+    element-set-from-after-6
+    returns
+    returns-2
+    returns-3
+    returns-4
+    returns-5
+    returns-6
+    returns-7
+    returns-8)
