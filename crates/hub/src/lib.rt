@@ -1,24 +1,20 @@
 // The hub: a whole run over byte slices that a host lends, and one request at a time over a board that it keeps; the same with a journal
 // of the commits, and a restart from it.
-mod host;
-mod lending;
-mod run;
-
-use crate::host::open;
-use crate::host::tell;
-use crate::run::complete;
 use board::Board;
 use journal::Journaled;
 use lent::refusals::minus;
 use lent::refusals::refusal;
+use serving::host::open;
+use serving::host::tell;
+use serving::run::complete;
 ghost use mathlib.Core.Path.{_≡_};
 ghost use lib.ListN.{length};
 ghost use Rattle.board.specs.Reached.{Reached};
 ghost use Rattle.journal.specs.Journal.{journalAfter};
 ghost use Rattle.journal.specs.Reached as Kept;
-ghost use Rattle.journal.specs.Run as Journal;
+ghost use Rattle.journaling.specs.Run as Journal;
 ghost use Rattle.restart.specs.Restart as Restart;
-ghost use Rattle.hub.specs.Hub.{Outcome, outcome, openedBy, steppedBy};
+ghost use Rattle.serving.specs.Run.{Outcome, outcome, openedBy, steppedBy};
 
 // A whole run: the count of answers, or minus the number of the refusal. It supposes nothing.
 #[no_mangle]
@@ -73,7 +69,7 @@ pub extern "C" fn hub_run_journal(
     if refused != 0 {
         return minus(refused);
     }
-    journal::run::complete(table, requests, answers, values, journal)
+    journaling::run::complete(table, requests, answers, values, journal)
 }
 
 // A fresh board of the table with an empty journal, and 0; of a wrong table -10, and both stay as they are.
@@ -81,7 +77,7 @@ pub extern "C" fn hub_run_journal(
 pub extern "C" fn hub_open_journal(board: &mut Journaled, table: &[u8], journal: &mut [u8]) -> i64
     ensures { λ r. ⌜ (r ≡ Journal.openedBy (now (board .entry)) (now (table .entry)) .code) × (now (board .exit) ≡ Journal.openedBy (now (board .entry)) (now (table .entry)) .board) × (now (journal .exit) ≡ Journal.journalOpened (now (table .entry)) (now (journal .entry))) ⌝ }
 {
-    let o = journal::host::open(*board, table, journal);
+    let o = journaling::host::open(*board, table, journal);
     *board = o.board;
     o.code
 }
@@ -97,7 +93,7 @@ pub extern "C" fn hub_step_journal(
     requires { ⌜ Kept.Reached (now board) ⌝ }
     ensures { λ _. ⌜ (now (board .exit) ≡ Journal.steppedBy (now (board .entry)) (length (now (journal .entry))) (now (request .entry)) .board) × (now (answer .exit) ≡ Journal.steppedBy (now (board .entry)) (length (now (journal .entry))) (now (request .entry)) .bytes) × (now (journal .exit) ≡ journalAfter (now (board .entry)) (now (journal .entry)) (now (request .entry))) ⌝ }
 {
-    let t = journal::host::tell(*board, *request, journal);
+    let t = journaling::host::tell(*board, *request, journal);
     *board = t.board;
     *answer = t.bytes;
 }

@@ -1,4 +1,2 @@
 pub mod Journal
 pub mod Reached
-pub mod Run
-pub mod Calls

@@ -1,8 +1,5 @@
 // The board with a journal of its commits. The board's answer comes first; then the room for the records of a commit is tested; then the
 // board follows, and the records are put into the journal.
-pub mod host;
-pub mod run;
-
 use answering::answer;
 use board::Board;
 use desks::Desk;

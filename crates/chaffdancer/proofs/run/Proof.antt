@@ -12,8 +12,8 @@ use mir.Syntax.{w64}
 use mir.Val.{toZ, ofZ}
 use mir.Facts.{toZ-ofZ}
 use Rattle.wire.proofs.Rows.{right-long}
-use Rattle.hub.specs.Hub.{told, outcome}
-use Rattle.hub.proofs.Outcome.{answered}
+use Rattle.serving.specs.Run.{told, outcome}
+use Rattle.serving.proofs.Outcome.{answered}
 use Rattle.lent.proofs.Refused.{Accepted}
 use Rattle.chaffdancer.proofs.run.Statement.{statement}
 use Rattle.chaffdancer.proofs.run.Tie as tie

@@ -39,18 +39,18 @@ use denote.Triple.Clauses.{ensured, lasts}
 use denote.Triple.Table.{entered, cited}
 use denote.Triple.Walked.{says, Stays, stay-ref, stay-dropped, walkOf, goes-ref, goes-dropped, Walks, ends-at, walked, walk-meets}
 use denote.Exit.{yes}
-use Rattle.hub.specs.Hub.{openedBy}
+use Rattle.serving.specs.Run.{openedBy}
 use Rattle.board.specs.declared.Board.{Board}
-use Rattle.hub.specs.declared.host.Opened.{Opened}
+use Rattle.serving.specs.declared.host.Opened.{Opened}
 use Rattle.board.proofs.Board as B
 use Rattle.board.proofs.Board.Laws as B′
-use Rattle.hub.proofs.host.Opened as O
-use Rattle.hub.proofs.host.Opened.Laws as O′
-use Rattle.hub.proofs.Machine.{board-vals}
-use Rattle.hub.proofs.host.open as open-fn
-use Rattle.hub.proofs.host.open.Symbol as open-def
-use Rattle.hub.proofs.host.open.Symbol.{name as #hub·open}
-use Rattle.hub.proofs.host.open.Met as open-thm
+use Rattle.serving.proofs.host.Opened as O
+use Rattle.serving.proofs.host.Opened.Laws as O′
+use Rattle.serving.proofs.Machine.{board-vals}
+use Rattle.serving.proofs.host.open as open-fn
+use Rattle.serving.proofs.host.open.Symbol as open-def
+use Rattle.serving.proofs.host.open.Symbol.{name as #serving·open}
+use Rattle.serving.proofs.host.open.Met as open-thm
 use Rattle.hub.proofs.hub_open.Key.{name as #hub·hub-open}
 use Rattle.hub.proofs.hub_open as hub-open
 use Rattle.hub.proofs.hub_open.Statement as stated
@@ -110,7 +110,7 @@ module _ {M : Type 1} (𝓤 : URA M) (H : Heap 𝓤) (A : Atoms 𝓤) (W : Given
         feqI ! (List Val) (vptr b₀ o₀ ∷ []) (vptr b₀ o₀ ∷ []) refl $ fjoin3 ! $ nothing ! $ nothing ! $ fjoin ! $ move ! (1 ∷ 0 ∷ []) $ fjoin ! $
         owned ! i64 (Is i64) (sint-makes 𝓤 H A W w64) (r .code) _ is-c $ move ! (1 ∷ 0 ∷ []) $ done !
 
-    module _ (C : Calls 𝓤 H) (Λ : Loops 𝓤 H) (fm : FmC 𝓤 H (W .laws) C) (known : Triple 𝓤 (C #hub·open) Open) where
+    module _ (C : Calls 𝓤 H) (Λ : Loops 𝓤 H) (fm : FmC 𝓤 H (W .laws) C) (known : Triple 𝓤 (C #serving·open) Open) where
       walk : ent 𝓤 (onEntry 𝓤 H A hub-open.signature (κ₀, (κ₁, tt)) (q₀, (q₁, tt)) x at) (WpFn 𝓤 H C Λ code.function (vptr b₀ o₀ ∷ only (slice-vals t) ∷ []) Post)
       walk =
           qed W ((‵ (flft κ₀ q₀) ⊛ ‵ (flft κ₁ q₁) ⊛ ‵ ftrue) ∷ ‵ (owns (MutRef (named 0) κ₀ B.the-row ∷ Table κ₁ ∷ []) x at) ∷ []) ∵
@@ -141,12 +141,12 @@ module _ {M : Type 1} (𝓤 : URA M) (H : Heap 𝓤) (A : Atoms 𝓤) (W : Given
           keep ! (0 ∷ 1 ∷ 2 ∷ 3 ∷ []) $ by ! (exits r e (is-code r v is)))))))))))))
 
 module _ {M : Type 1} (𝓤 : URA M) (H : Heap 𝓤) (A : Atoms 𝓤) (W : Given 𝓤 H A) (mem : Memory → SProp 𝓤) (run : Routine → Fun 𝓤) where
-  hub-open-walks : (C : Calls 𝓤 H) (Λ : Loops 𝓤 H) → FmC 𝓤 H (W .laws) C → Triple 𝓤 (C #hub·open) (Open 𝓤 H A W mem run) → Walks 𝓤 H A hub-open.ended stayed (WpFn 𝓤 H C Λ code.function) (hub-open.clauses 𝓤 H A mem run)
+  hub-open-walks : (C : Calls 𝓤 H) (Λ : Loops 𝓤 H) → FmC 𝓤 H (W .laws) C → Triple 𝓤 (C #serving·open) (Open 𝓤 H A W mem run) → Walks 𝓤 H A hub-open.ended stayed (WpFn 𝓤 H C Λ code.function) (hub-open.clauses 𝓤 H A mem run)
   hub-open-walks C Λ fm known = walked 𝓤 H A hub-open.ended stayed (hub-open.clauses 𝓤 H A mem run) (WpFn 𝓤 H C Λ code.function)
       (λ κs. (ptr-vals, (slice-vals, tt))) (λ κs. (mut-tells (named 0) (κs .0) B.the-row, (shr-slice-tells (named 1) (κs .1 .0) u8, tt)))
       (λ κs qs bounds a g are. via 𝓤 _ (fst∗ 𝓤 _ (hub-open.clauses 𝓤 H A mem run κs a .requires g)) (walk 𝓤 H A W mem run (κs .0) (κs .1 .0) (qs .0) (qs .1 .0) (a .0 .ptr .0) (a .0 .ptr .1) (a .0 .name) (a .0 .now) (a .1 .0) (are .1 .0) C Λ fm known))
 
-hub-open-meets : {M : Type 1} (𝓤 : URA M) (H : Heap 𝓤) (A : Atoms 𝓤) (W : Given 𝓤 H A) (mem : Memory → SProp 𝓤) (run : Routine → Fun 𝓤) (𝓣 : Tables 𝓤 H) → Triple 𝓤 (𝓣 .C #hub·open) (Open 𝓤 H A W mem run)
+hub-open-meets : {M : Type 1} (𝓤 : URA M) (H : Heap 𝓤) (A : Atoms 𝓤) (W : Given 𝓤 H A) (mem : Memory → SProp 𝓤) (run : Routine → Fun 𝓤) (𝓣 : Tables 𝓤 H) → Triple 𝓤 (𝓣 .C #serving·open) (Open 𝓤 H A W mem run)
     → Meets 𝓤 H A hub-open.signature (WpFn 𝓤 H (𝓣 .C) (𝓣 .Λ) code.function) (hub-open.spec 𝓤 H A mem run)
 hub-open-meets 𝓤 H A W mem run 𝓣 known =
     walk-meets 𝓤 H A hub-open.ended stayed W
@@ -159,4 +159,4 @@ hub-open-spec 𝓤 H 𝓜 𝓖 𝓡 =
     entered 𝓤 H (tripleOf 𝓤 H (𝓖 .A) hub-open.signature (hub-open.spec 𝓤 H (𝓖 .A) (𝓜 .mem) (𝓡 .run)))
     (tables 𝓤 H 𝓜 𝓡 code.env .C) (tables 𝓤 H 𝓜 𝓡 code.env .Λ) #hub·hub-open code.function (code.unfolded 𝓤 H 𝓜 𝓡)
     (hub-open-meets 𝓤 H (𝓖 .A) (givenOf 𝓤 H 𝓜 𝓖) (𝓜 .mem) (𝓡 .run) (tablesOf 𝓤 H 𝓜 (tables 𝓤 H 𝓜 𝓡 code.env))
-    (cited 𝓤 H (Open 𝓤 H (𝓖 .A) (givenOf 𝓤 H 𝓜 𝓖) (𝓜 .mem) (𝓡 .run)) 𝓜 𝓡 code.env #hub·open open-def.routine code.calls-hub·host·open (open-thm.met 𝓤 H 𝓜 𝓖 𝓡)))
+    (cited 𝓤 H (Open 𝓤 H (𝓖 .A) (givenOf 𝓤 H 𝓜 𝓖) (𝓜 .mem) (𝓡 .run)) 𝓜 𝓡 code.env #serving·open open-def.routine code.calls-serving·host·open (open-thm.met 𝓤 H 𝓜 𝓖 𝓡)))

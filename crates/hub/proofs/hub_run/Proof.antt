@@ -4,7 +4,7 @@ use borrow.Author.Needs.{needs}
 use lib.IntN.{ℤ}
 use mir.Syntax.{w64}
 use mir.Facts.{toZ-ofZ}
-use Rattle.hub.specs.Hub.{told, outcome}
+use Rattle.serving.specs.Run.{told, outcome}
 use Rattle.lent.proofs.Refused.{refused-run, completed-run}
 use Rattle.hub.proofs.hub_run.Statement.{statement}
 use Rattle.hub.proofs.hub_run.Tie as tie

@@ -4,7 +4,7 @@ use borrow.Author.Needs.{needs}
 use lib.IntN.{ℤ}
 use mir.Syntax.{w64}
 use mir.Facts.{toZ-ofZ}
-use Rattle.journal.specs.Run.{told, outcome}
+use Rattle.journaling.specs.Run.{told, outcome}
 use Rattle.lent.proofs.Refused.{refused-run, completed-run}
 use Rattle.hub.proofs.hub_run_journal.Statement.{statement}
 use Rattle.hub.proofs.hub_run_journal.Tie as tie

@@ -40,18 +40,18 @@ use denote.Triple.Table.{entered, cited}
 use denote.Triple.Walked.{says, needs, Stays, stay-ref, stay-dropped, walkOf, goes-ref, goes-dropped, Walks, ends-at, walked, walk-meets}
 use denote.Exit.{yes}
 use Rattle.board.specs.Reached.{Reached}
-use Rattle.hub.specs.Hub.{steppedBy}
+use Rattle.serving.specs.Run.{steppedBy}
 use Rattle.board.specs.declared.Board.{Board}
-use Rattle.hub.specs.declared.host.Told.{Told}
+use Rattle.serving.specs.declared.host.Told.{Told}
 use Rattle.board.proofs.Board as B
 use Rattle.board.proofs.Board.Laws as B′
-use Rattle.hub.proofs.host.Told as T
-use Rattle.hub.proofs.host.Told.Laws as T′
-use Rattle.hub.proofs.Machine.{Eight, Twelve, bytes-vals, board-vals}
-use Rattle.hub.proofs.host.tell as tell
-use Rattle.hub.proofs.host.tell.Symbol as tell-def
-use Rattle.hub.proofs.host.tell.Symbol.{name as #hub·tell}
-use Rattle.hub.proofs.host.tell.Met as tell-thm
+use Rattle.serving.proofs.host.Told as T
+use Rattle.serving.proofs.host.Told.Laws as T′
+use Rattle.serving.proofs.Machine.{Eight, Twelve, bytes-vals, board-vals}
+use Rattle.serving.proofs.host.tell as tell
+use Rattle.serving.proofs.host.tell.Symbol as tell-def
+use Rattle.serving.proofs.host.tell.Symbol.{name as #serving·tell}
+use Rattle.serving.proofs.host.tell.Met as tell-thm
 use Rattle.hub.proofs.hub_step.Key.{name as #hub·hub-step}
 use Rattle.hub.proofs.hub_step as hub-step
 use Rattle.hub.proofs.hub_step.Statement as stated
@@ -103,7 +103,7 @@ module _ {M : Type 1} (𝓤 : URA M) (H : Heap 𝓤) (A : Atoms 𝓤) (W : Given
         nothing ! $ move ! (3 ∷ 4 ∷ []) $ feqI ! (List Val) (vptr b₂ o₂ ∷ []) (vptr b₂ o₂ ∷ []) refl $ fjoin3 ! $ fjoin ! $ nothing ! $ fjoin ! $
         move ! (1 ∷ 2 ∷ []) $ feqI ! (List Val) (vptr b₀ o₀ ∷ []) (vptr b₀ o₀ ∷ []) refl $ fjoin3 ! $ fjoin ! $ feqI ! (List Val) (vunit ∷ []) (vunit ∷ []) refl $ move ! (1 ∷ 0 ∷ []) $ done !
 
-    module _ (C : Calls 𝓤 H) (Λ : Loops 𝓤 H) (fm : FmC 𝓤 H (W .laws) C) (known : Triple 𝓤 (C #hub·tell) Tell) where
+    module _ (C : Calls 𝓤 H) (Λ : Loops 𝓤 H) (fm : FmC 𝓤 H (W .laws) C) (known : Triple 𝓤 (C #serving·tell) Tell) where
       walk : ent 𝓤 (onEntry 𝓤 H A hub-step.signature (κ₀, (κ₁, (κ₂, tt))) (q₀, (q₁, (q₂, tt))) x at) (WpFn 𝓤 H C Λ code.function (vptr b₀ o₀ ∷ vptr b₁ o₁ ∷ vptr b₂ o₂ ∷ []) Post)
       walk =
           qed W ((‵ (flft κ₀ q₀) ⊛ ‵ (flft κ₁ q₁) ⊛ ‵ (flft κ₂ q₂) ⊛ ‵ ftrue) ∷ ‵ (owns (MutRef (named 0) κ₀ B.the-row ∷ ShrRef (named 1) κ₁ Eight ∷ MutRef (named 2) κ₂ Twelve ∷ []) x at) ∷ []) ∵
@@ -141,13 +141,13 @@ module _ {M : Type 1} (𝓤 : URA M) (H : Heap 𝓤) (A : Atoms 𝓤) (W : Given
           keep ! (0 ∷ 1 ∷ 2 ∷ 3 ∷ 4 ∷ 5 ∷ 6 ∷ []) $ by ! (exits r e)))))))))))))))))
 
 module _ {M : Type 1} (𝓤 : URA M) (H : Heap 𝓤) (A : Atoms 𝓤) (W : Given 𝓤 H A) (mem : Memory → SProp 𝓤) (run : Routine → Fun 𝓤) where
-  hub-step-walks : (C : Calls 𝓤 H) (Λ : Loops 𝓤 H) → FmC 𝓤 H (W .laws) C → Triple 𝓤 (C #hub·tell) (Tell 𝓤 H A W mem run) → Walks 𝓤 H A hub-step.ended stayed (WpFn 𝓤 H C Λ code.function) (hub-step.clauses 𝓤 H A mem run)
+  hub-step-walks : (C : Calls 𝓤 H) (Λ : Loops 𝓤 H) → FmC 𝓤 H (W .laws) C → Triple 𝓤 (C #serving·tell) (Tell 𝓤 H A W mem run) → Walks 𝓤 H A hub-step.ended stayed (WpFn 𝓤 H C Λ code.function) (hub-step.clauses 𝓤 H A mem run)
   hub-step-walks C Λ fm known = walked 𝓤 H A hub-step.ended stayed (hub-step.clauses 𝓤 H A mem run) (WpFn 𝓤 H C Λ code.function)
       (λ κs. (ptr-vals, (ptr-vals, (ptr-vals, tt)))) (λ κs. (mut-tells (named 0) (κs .0) B.the-row, (shr-tells (named 1) (κs .1 .0) Eight, (mut-tells (named 2) (κs .1 .1 .0) Twelve, tt))))
       (λ κs qs bounds a g are. needs 𝓤 (Reached (a .0 .now)) _ (λ ok. walk 𝓤 H A W mem run (κs .0) (κs .1 .0) (κs .1 .1 .0) (qs .0) (qs .1 .0) (qs .1 .1 .0) (a .0 .ptr .0) (a .0 .ptr .1) (a .0 .name) (a .0 .now)
       (a .1 .0 .ptr .0) (a .1 .0 .ptr .1) (a .1 .0 .name) (a .1 .0 .now) (a .1 .1 .0 .ptr .0) (a .1 .1 .0 .ptr .1) (a .1 .1 .0 .name) (a .1 .1 .0 .now) ok C Λ fm known))
 
-hub-step-meets : {M : Type 1} (𝓤 : URA M) (H : Heap 𝓤) (A : Atoms 𝓤) (W : Given 𝓤 H A) (mem : Memory → SProp 𝓤) (run : Routine → Fun 𝓤) (𝓣 : Tables 𝓤 H) → Triple 𝓤 (𝓣 .C #hub·tell) (Tell 𝓤 H A W mem run)
+hub-step-meets : {M : Type 1} (𝓤 : URA M) (H : Heap 𝓤) (A : Atoms 𝓤) (W : Given 𝓤 H A) (mem : Memory → SProp 𝓤) (run : Routine → Fun 𝓤) (𝓣 : Tables 𝓤 H) → Triple 𝓤 (𝓣 .C #serving·tell) (Tell 𝓤 H A W mem run)
     → Meets 𝓤 H A hub-step.signature (WpFn 𝓤 H (𝓣 .C) (𝓣 .Λ) code.function) (hub-step.spec 𝓤 H A mem run)
 hub-step-meets 𝓤 H A W mem run 𝓣 known =
     walk-meets 𝓤 H A hub-step.ended stayed W
@@ -160,4 +160,4 @@ hub-step-spec 𝓤 H 𝓜 𝓖 𝓡 =
     entered 𝓤 H (tripleOf 𝓤 H (𝓖 .A) hub-step.signature (hub-step.spec 𝓤 H (𝓖 .A) (𝓜 .mem) (𝓡 .run)))
     (tables 𝓤 H 𝓜 𝓡 code.env .C) (tables 𝓤 H 𝓜 𝓡 code.env .Λ) #hub·hub-step code.function (code.unfolded 𝓤 H 𝓜 𝓡)
     (hub-step-meets 𝓤 H (𝓖 .A) (givenOf 𝓤 H 𝓜 𝓖) (𝓜 .mem) (𝓡 .run) (tablesOf 𝓤 H 𝓜 (tables 𝓤 H 𝓜 𝓡 code.env))
-    (cited 𝓤 H (Tell 𝓤 H (𝓖 .A) (givenOf 𝓤 H 𝓜 𝓖) (𝓜 .mem) (𝓡 .run)) 𝓜 𝓡 code.env #hub·tell tell-def.routine code.calls-hub·host·tell (tell-thm.met 𝓤 H 𝓜 𝓖 𝓡)))
+    (cited 𝓤 H (Tell 𝓤 H (𝓖 .A) (givenOf 𝓤 H 𝓜 𝓖) (𝓜 .mem) (𝓡 .run)) 𝓜 𝓡 code.env #serving·tell tell-def.routine code.calls-serving·host·tell (tell-thm.met 𝓤 H 𝓜 𝓖 𝓡)))

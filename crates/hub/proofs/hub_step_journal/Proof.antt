@@ -44,18 +44,19 @@ use denote.Triple.Walked.{says, needs, Stays, stay-ref, stay-dropped, gave-slice
 use denote.Exit.{yes}
 use Rattle.journal.specs.Journal.{journalAfter}
 use Rattle.journal.specs.Reached.{Reached}
-use Rattle.journal.specs.Run.{steppedBy}
+use Rattle.journaling.specs.Run.{steppedBy}
 use Rattle.journal.specs.declared.Journaled.{Journaled}
-use Rattle.journal.specs.declared.host.Told.{Told}
+use Rattle.journaling.specs.declared.host.Told.{Told}
 use Rattle.journal.proofs.Journaled as J
 use Rattle.journal.proofs.Journaled.Laws as J′
-use Rattle.journal.proofs.host.Told as T
-use Rattle.journal.proofs.host.Told.Laws as T′
-use Rattle.journal.proofs.host.tell as tell
-use Rattle.journal.proofs.host.tell.Symbol as tell-def
-use Rattle.journal.proofs.host.tell.Symbol.{name as #journal·tell}
-use Rattle.journal.proofs.host.tell.Met as tell-thm
-use Rattle.hub.proofs.Machine.{Eight, Twelve, bytes-vals, journaled-vals}
+use Rattle.journaling.proofs.host.Told as T
+use Rattle.journaling.proofs.host.Told.Laws as T′
+use Rattle.journaling.proofs.host.tell as tell
+use Rattle.journaling.proofs.host.tell.Symbol as tell-def
+use Rattle.journaling.proofs.host.tell.Symbol.{name as #journaling·tell}
+use Rattle.journaling.proofs.host.tell.Met as tell-thm
+use Rattle.serving.proofs.Machine.{Eight, Twelve, bytes-vals}
+use Rattle.hub.proofs.Journal.{journaled-vals}
 use Rattle.hub.proofs.hub_step_journal.Key.{name as #hub·hub-step-journal}
 use Rattle.hub.proofs.hub_step_journal as hub-step-journal
 use Rattle.hub.proofs.hub_step_journal.Statement as stated
@@ -114,7 +115,7 @@ module _ {M : Type 1} (𝓤 : URA M) (H : Heap 𝓤) (A : Atoms 𝓤) (W : Given
         nothing ! $ move ! (5 ∷ 0 ∷ []) $ fjoin ! $ move ! (3 ∷ 4 ∷ []) $ feqI ! (List Val) (vptr b₂ o₂ ∷ []) (vptr b₂ o₂ ∷ []) refl $ fjoin3 ! $ fjoin ! $ nothing ! $ fjoin ! $
         move ! (1 ∷ 2 ∷ []) $ feqI ! (List Val) (vptr b₀ o₀ ∷ []) (vptr b₀ o₀ ∷ []) refl $ fjoin3 ! $ fjoin ! $ feqI ! (List Val) (vunit ∷ []) (vunit ∷ []) refl $ move ! (1 ∷ 0 ∷ []) $ done !
 
-    module _ (C : Calls 𝓤 H) (Λ : Loops 𝓤 H) (fm : FmC 𝓤 H (W .laws) C) (known : Triple 𝓤 (C #journal·tell) Tell) where
+    module _ (C : Calls 𝓤 H) (Λ : Loops 𝓤 H) (fm : FmC 𝓤 H (W .laws) C) (known : Triple 𝓤 (C #journaling·tell) Tell) where
       walk : ent 𝓤 (onEntry 𝓤 H A hub-step-journal.signature (κ₀, (κ₁, (κ₂, (κ₃, tt)))) (q₀, (q₁, (q₂, (q₃, tt)))) x at) (WpFn 𝓤 H C Λ code.function (vptr b₀ o₀ ∷ vptr b₁ o₁ ∷ vptr b₂ o₂ ∷ sliceVal (b₃, o₃) (length ys) ∷ []) Post)
       walk =
           qed W ((‵ (flft κ₀ q₀) ⊛ ‵ (flft κ₁ q₁) ⊛ ‵ (flft κ₂ q₂) ⊛ ‵ (flft κ₃ q₃) ⊛ ‵ ftrue) ∷ ‵ (owns (MutRef (named 0) κ₀ J.the-row ∷ ShrRef (named 1) κ₁ Eight ∷ MutRef (named 2) κ₂ Twelve ∷ MutSlice (named 3) κ₃ u8 ∷ []) x at) ∷ []) ∵
@@ -158,14 +159,14 @@ module _ {M : Type 1} (𝓤 : URA M) (H : Heap 𝓤) (A : Atoms 𝓤) (W : Given
           keep ! (0 ∷ 1 ∷ 2 ∷ 3 ∷ 4 ∷ 5 ∷ 6 ∷ 7 ∷ 9 ∷ []) $ by ! (exits r (zs .1 .1 .0) e l))))))))))))))))))))))
 
 module _ {M : Type 1} (𝓤 : URA M) (H : Heap 𝓤) (A : Atoms 𝓤) (W : Given 𝓤 H A) (mem : Memory → SProp 𝓤) (run : Routine → Fun 𝓤) where
-  hub-step-journal-walks : (C : Calls 𝓤 H) (Λ : Loops 𝓤 H) → FmC 𝓤 H (W .laws) C → Triple 𝓤 (C #journal·tell) (Tell 𝓤 H A W mem run) → Walks 𝓤 H A hub-step-journal.ended stayed (WpFn 𝓤 H C Λ code.function) (hub-step-journal.clauses 𝓤 H A mem run)
+  hub-step-journal-walks : (C : Calls 𝓤 H) (Λ : Loops 𝓤 H) → FmC 𝓤 H (W .laws) C → Triple 𝓤 (C #journaling·tell) (Tell 𝓤 H A W mem run) → Walks 𝓤 H A hub-step-journal.ended stayed (WpFn 𝓤 H C Λ code.function) (hub-step-journal.clauses 𝓤 H A mem run)
   hub-step-journal-walks C Λ fm known = walked 𝓤 H A hub-step-journal.ended stayed (hub-step-journal.clauses 𝓤 H A mem run) (WpFn 𝓤 H C Λ code.function)
       (λ κs. (ptr-vals, (ptr-vals, (ptr-vals, (slice-vals, tt))))) (λ κs. (mut-tells (named 0) (κs .0) J.the-row, (shr-tells (named 1) (κs .1 .0) Eight, (mut-tells (named 2) (κs .1 .1 .0) Twelve, (mut-slice-tells (named 3) (κs .1 .1 .1 .0) u8, tt)))))
       (λ κs qs bounds a g are. needs 𝓤 (Reached (a .0 .now)) _ (λ ok. walk 𝓤 H A W mem run (κs .0) (κs .1 .0) (κs .1 .1 .0) (κs .1 .1 .1 .0) (qs .0) (qs .1 .0) (qs .1 .1 .0) (qs .1 .1 .1 .0) (a .0 .ptr .0) (a .0 .ptr .1) (a .0 .name) (a .0 .now)
       (a .1 .0 .ptr .0) (a .1 .0 .ptr .1) (a .1 .0 .name) (a .1 .0 .now) (a .1 .1 .0 .ptr .0) (a .1 .1 .0 .ptr .1) (a .1 .1 .0 .name) (a .1 .1 .0 .now)
       (a .1 .1 .1 .0 .ptr .0) (a .1 .1 .1 .0 .ptr .1) (a .1 .1 .1 .0 .name) (a .1 .1 .1 .0 .now) (are .1 .1 .1 .0 .0 .1) ok C Λ fm known))
 
-hub-step-journal-meets : {M : Type 1} (𝓤 : URA M) (H : Heap 𝓤) (A : Atoms 𝓤) (W : Given 𝓤 H A) (mem : Memory → SProp 𝓤) (run : Routine → Fun 𝓤) (𝓣 : Tables 𝓤 H) → Triple 𝓤 (𝓣 .C #journal·tell) (Tell 𝓤 H A W mem run)
+hub-step-journal-meets : {M : Type 1} (𝓤 : URA M) (H : Heap 𝓤) (A : Atoms 𝓤) (W : Given 𝓤 H A) (mem : Memory → SProp 𝓤) (run : Routine → Fun 𝓤) (𝓣 : Tables 𝓤 H) → Triple 𝓤 (𝓣 .C #journaling·tell) (Tell 𝓤 H A W mem run)
     → Meets 𝓤 H A hub-step-journal.signature (WpFn 𝓤 H (𝓣 .C) (𝓣 .Λ) code.function) (hub-step-journal.spec 𝓤 H A mem run)
 hub-step-journal-meets 𝓤 H A W mem run 𝓣 known =
     walk-meets 𝓤 H A hub-step-journal.ended stayed W
@@ -178,4 +179,4 @@ hub-step-journal-spec 𝓤 H 𝓜 𝓖 𝓡 =
     entered 𝓤 H (tripleOf 𝓤 H (𝓖 .A) hub-step-journal.signature (hub-step-journal.spec 𝓤 H (𝓖 .A) (𝓜 .mem) (𝓡 .run)))
     (tables 𝓤 H 𝓜 𝓡 code.env .C) (tables 𝓤 H 𝓜 𝓡 code.env .Λ) #hub·hub-step-journal code.function (code.unfolded 𝓤 H 𝓜 𝓡)
     (hub-step-journal-meets 𝓤 H (𝓖 .A) (givenOf 𝓤 H 𝓜 𝓖) (𝓜 .mem) (𝓡 .run) (tablesOf 𝓤 H 𝓜 (tables 𝓤 H 𝓜 𝓡 code.env))
-    (cited 𝓤 H (Tell 𝓤 H (𝓖 .A) (givenOf 𝓤 H 𝓜 𝓖) (𝓜 .mem) (𝓡 .run)) 𝓜 𝓡 code.env #journal·tell tell-def.routine code.calls-journal·host·tell (tell-thm.met 𝓤 H 𝓜 𝓖 𝓡)))
+    (cited 𝓤 H (Tell 𝓤 H (𝓖 .A) (givenOf 𝓤 H 𝓜 𝓖) (𝓜 .mem) (𝓡 .run)) 𝓜 𝓡 code.env #journaling·tell tell-def.routine code.calls-journaling·host·tell (tell-thm.met 𝓤 H 𝓜 𝓖 𝓡)))

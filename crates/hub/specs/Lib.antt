@@ -1,2 +1,0 @@
-pub mod Hub
-pub mod Calls

@@ -1,0 +1,70 @@
+// A whole run with a journal.
+use crate::host::Told;
+use crate::host::fresh;
+use crate::host::tell;
+use journal::Journaled;
+use lent::pieces::eight;
+use lent::pieces::put;
+use lent::pieces::put_values;
+ghost use mathlib.Core.Path.{_≡_};
+ghost use mathlib.Core.List.{_++_};
+ghost use Prim.Native.Nat.{_*_, _/_, _≤_};
+ghost use lib.ListN.{length, drop};
+ghost use Rattle.runs.specs.Runs.{after};
+ghost use Rattle.lent.specs.Pieces.{eightsIn, served};
+ghost use Rattle.lent.specs.Refusals.{refusal};
+ghost use Rattle.journal.specs.Journal.{opened, next, reply, journalAfter};
+ghost use Rattle.journal.specs.Reached.{Reached};
+ghost use Rattle.journaling.specs.Run.{Outcome, completed, steppedBy};
+
+// A run's next request, from what the one before it left.
+fn next(last: Told, request: [u8; 8], journal: &mut [u8]) -> Told
+    requires { ⌜ Reached (last .board) ⌝ }
+    ensures { λ r. ⌜ r ≡ steppedBy (last .board) (length (now (journal .entry))) request ⌝ }
+    ensures { λ _. ⌜ now (journal .exit) ≡ journalAfter (last .board) (now (journal .entry)) request ⌝ }
+{
+    let board = last.board;
+    tell(board, request, journal)
+}
+
+// Hands the requests over one at a time and writes each answer after the one before it.
+fn serve(start: Journaled, requests: &[u8], answers: &mut [u8], journal: &mut [u8]) -> Journaled
+    requires { ⌜ Reached start ⌝ }
+    requires { ⌜ 12 * (length (now requests) / 8) ≤ length (now answers) ⌝ }
+    ensures { λ r. ⌜ record { kept = r; journal = now (journal .exit) } ≡ after next (record { kept = start; journal = now (journal .entry) }) (eightsIn (now (requests .entry))) ⌝ }
+    ensures { λ r. ⌜ now (answers .exit) ≡ served next reply (record { kept = start; journal = now (journal .entry) }) (eightsIn (now (requests .entry))) ++ drop (12 * (length (now (requests .entry)) / 8)) (now (answers .entry)) ⌝ }
+{
+    let count = requests.len() / 8;
+    let mut last = Told {
+        board: start,
+        bytes: [0; 12],
+    };
+    let mut k = 0;
+    while k < count {
+        let request = eight(requests, 8 * k);
+        last = next(last, request, journal);
+        let bytes = last.bytes;
+        put(answers, 12 * k, &bytes);
+        k += 1;
+    }
+    last.board
+}
+
+// A run that is not refused: the answers, the final values, the journal and the count of answers.
+pub fn complete(
+    table: &[u8],
+    requests: &[u8],
+    answers: &mut [u8],
+    values: &mut [u8],
+    journal: &mut [u8],
+) -> i64
+    requires { ⌜ 0 ≡ refusal (now table) (length (now requests)) (length (now answers)) (length (now values)) ⌝ }
+    ensures { λ r. ⌜ Outcome.told r (now (answers .exit)) (now (values .exit)) (now (journal .exit)) ≡ completed (opened (now (table .entry)) (now (journal .entry))) (eightsIn (now (requests .entry))) (now (answers .entry)) (now (values .entry)) ⌝ }
+{
+    let start = fresh(table, journal);
+    let last = serve(start, requests, answers, journal);
+    let board = last.board;
+    let left = board.values;
+    put_values(values, left);
+    (requests.len() / 8) as i64
+}

@@ -1,0 +1,119 @@
+-- The invariant: the board is that after the first k requests, their answers stand at the front, and the rest of the buffer is as it was.
+use Prim.Native.Nat.{ℕ, _*_, _/_, _≤_, _-_}
+use mathlib.Core.Path.{_≡_, refl, sym, ap, _∙_}
+use mathlib.Core.List.{List, _++_}
+use native.Mathlib.Omega.{arith}
+use borrow.Author.Needs.{needs}
+use lib.ListN.{length, drop}
+use Rattle.runs.specs.Runs.{after}
+use Rattle.words.specs.Bytes.{byte}
+use Rattle.wire.specs.Answers.{encode}
+use Rattle.board.specs.Reached.{Reached}
+use Rattle.board.specs.Rules.{step, next, reply}
+use Rattle.board.proofs.Reached.{reached-step}
+use Rattle.board.specs.declared.Board.{Board}
+use Rattle.board.specs.declared.Stepped.{Stepped}
+use Rattle.lent.specs.Pieces.{eightsOf, twelveEach, served}
+use Rattle.lent.proofs.Buffers.{turn}
+use Rattle.lent.proofs.Served.{eightAt, encode-length, next-board, next-answer, answers-length, part-bytes}
+use Rattle.serving.proofs.run.serve.Statement.{statement}
+use Rattle.serving.proofs.run.serve.Tie as tie
+
+abbrev Inv-loop : tie.InvT-loop
+Inv-loop requests answers₀ count last₀ k₀ answers last k =
+    (k ≤ count)
+    × (last .board ≡ after next (last₀ .board) (eightsOf requests k))
+    × (answers ≡ served next reply (last₀ .board) (eightsOf requests k) ++ drop (12 * k) answers₀)
+    × (length answers ≡ length answers₀)
+    × Reached (last .board)
+
+abbrev μ-loop : tie.MeasureT-loop
+μ-loop requests answers₀ count last₀ k₀ answers last k = count - k
+
+loop-holds : tie.Need-loop-holds Inv-loop μ-loop
+unfolding eightsOf twelveEach
+loop-holds c = (omega arith, refl, refl, refl, c .before .before .pre .0)
+
+mul-eight : tie.Need-mul-eight Inv-loop μ-loop
+mul-eight c = search needs
+
+eight-requires : tie.Need-eight-requires Inv-loop μ-loop
+eight-requires c κs = search needs
+
+next-requires : tie.Need-next-requires Inv-loop μ-loop
+next-requires c κs = c .before .before .loop .inv .4
+
+array-read-encode : tie.Need-array-read-encode Inv-loop μ-loop
+array-read-encode c = search needs
+
+encode-requires : tie.Need-encode-requires Inv-loop μ-loop
+encode-requires c κs = search needs
+
+mul-put : tie.Need-mul-put Inv-loop μ-loop
+mul-put c = search needs
+
+slice-aggregate-put : tie.Need-slice-aggregate-put Inv-loop μ-loop
+slice-aggregate-put c = search needs
+
+put-requires : tie.Need-put-requires Inv-loop μ-loop
+put-requires c κs = omega (arith, ap length (c .before .before .encode .ensures) ∙ encode-length _ _)
+
+add-k : tie.Need-add-k Inv-loop μ-loop
+add-k c = search needs
+
+loop-less : tie.Need-loop-less Inv-loop μ-loop
+loop-less c = search needs
+
+loop-again : tie.Need-loop-again Inv-loop μ-loop
+loop-again c =
+    let at-put = c .before .before in
+    let at-encode = at-put .before .before .before in
+    let at-next = at-encode .before in
+    let at-eight = at-next .before in
+    let l = at-eight .before .before in
+    let a = l .before .before .before .args in
+    let b = a .board in
+    let s = a .requests .now in
+    let k = l .loop .k in
+    let q = eightAt s k in
+    let asked : at-eight .eight .result ≡ q = at-eight .eight .ensures in
+    let stepped : at-next .next .result ≡ step (l .loop .last .board) q = at-next .next .ensures ∙ ap (step (l .loop .last .board)) asked in
+    let followed : at-next .next .result ≡ step (after next b (eightsOf s k)) q = stepped ∙ ap (λ (d : Board). step d q) (l .loop .inv .1) in
+    let told : at-encode .encode .result ≡ encode (byte q 1) (reply (after next b (eightsOf s k)) q) = at-encode .encode .ensures ∙ (λ i. encode (byte (asked i) 1) (followed i .answer)) in (
+      omega arith,
+      ap (λ (r : Stepped). r .board) followed ∙ sym (next-board next reply b s k),
+      turn (λ n. served next reply b (eightsOf s n)) 12 k (a .answers .now) (l .loop .answers) (at-put .put .last .0) (at-encode .encode .result)
+          (answers-length next reply b s k) (next-answer next reply b s k ∙ ap (λ (r : List ℕ). served next reply b (eightsOf s k) ++ r) (sym told)) (ap length told ∙ encode-length _ _) (l .loop .inv .2) (at-put .put .ensures),
+      at-put .put .kept .0 ∙ l .loop .inv .3,
+      rw stepped (reached-step (l .loop .inv .4) q (part-bytes s (8 * k) 8 (λ i. omega (arith, l .before .before .shared-slice-known .given i)) (omega arith))),
+    )
+
+same-length : tie.Need-same-length Inv-loop μ-loop
+same-length c = c .before .before .loop .inv .3
+
+returns : tie.Need-returns Inv-loop μ-loop
+returns c =
+    let l = c .before .before in
+    let e : l .loop .k ≡ length (l .before .before .before .args .requests .now) / 8 = omega arith in
+    (rw e at (l .loop .inv .1), rw e at (l .loop .inv .2))
+
+pub serve-spec : {M : Type 1} → statement M
+serve-spec =
+    tie.close
+    (tie.spec
+    Inv-loop
+    μ-loop
+    loop-holds
+    mul-eight
+    eight-requires
+    next-requires
+    array-read-encode
+    encode-requires
+    mul-put
+    slice-aggregate-put
+    put-requires
+    add-k
+    loop-less
+    loop-again
+    same-length
+    returns)

@@ -1,0 +1,41 @@
+-- The same run by one call for each request: what hub_open and hub_step promise, and what hub_run promises, are one thing.
+use Prim.Native.Nat.{ℕ, _*_, _≤_}
+use mathlib.Core.Path.{_≡_}
+use mathlib.Core.Bool.{false}
+use mathlib.Core.List.{List, [], _∷_, _++_}
+use lib.IntN.{pos}
+use lib.ListN.{length, drop}
+use Rattle.words.specs.Bytes.{Bytes}
+use Rattle.wire.specs.Table.{wrong}
+use Rattle.board.specs.Reached.{Eights, Reached}
+use Rattle.board.specs.declared.Board.{Board}
+use Rattle.lent.specs.Pieces.{fourEach, inOne}
+use Rattle.serving.specs.Run.{told, outcome, openedBy, steppedBy}
+
+-- the board that calls of hub_step leave, and the answers that they write, one after another
+abbrev pub left : Board → List (List ℕ) → Board
+left b [] = b
+left b (q ∷ qs) = left (steppedBy b q .board) qs
+
+abbrev pub written : Board → List (List ℕ) → List ℕ
+written b [] = []
+written b (q ∷ qs) = steppedBy b q .bytes ++ written (steppedBy b q .board) qs
+
+-- a right table opens a board that hub_step may be given, whatever stood there; a wrong one takes none away; and hub_step leaves such a board
+abbrev pub OpenReaches : Type 0
+OpenReaches = (b : Board) (t : List ℕ) → Bytes 1024 t → wrong t ≡ false → Reached (openedBy b t .board)
+
+abbrev pub OpenKeeps : Type 0
+OpenKeeps = (b : Board) (t : List ℕ) → Bytes (length t) t → Reached b → Reached (openedBy b t .board)
+
+abbrev pub StepKeeps : Type 0
+StepKeeps = (b : Board) (q : List ℕ) → Bytes 8 q → Reached b → Reached (steppedBy b q .board)
+
+-- for every right table and requests of 8 bytes up to the limits, the calls write the bytes of the run
+abbrev pub CallsAreRun : Type 0
+CallsAreRun =
+    (b : Board) (t : List ℕ) → wrong t ≡ false → (qs : List (List ℕ)) → Eights qs → length qs ≤ 4096
+    → (a v : List ℕ) → 12 * length qs ≤ length a → 256 ≤ length v
+    → let o = openedBy b t .board in
+    outcome t (inOne qs) a v
+    ≡ told (pos (length qs)) (written o qs ++ drop (12 * length qs) a) (fourEach (left o qs .values) ++ drop 256 v)
