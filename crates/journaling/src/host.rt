@@ -1,9 +1,8 @@
 // What the exported calls over a host's board and journal do, with the board by value.
+use crate::run::serve;
 use journal::Journaled;
-use journal::step;
 use lent::opening::opening;
 use records::room;
-use wire::answers::encode;
 use wire::table::wrong;
 ghost use mathlib.Core.Path.{_≡_};
 ghost use mathlib.Core.Bool.{false};
@@ -63,13 +62,12 @@ pub fn open(s: Journaled, table: &[u8], journal: &mut [u8]) -> Opened
     Opened { board, code: 0 }
 }
 
+// A run of one request: so that the one place where a request is served is the loop of a run.
 pub fn tell(s: Journaled, request: [u8; 8], journal: &mut [u8]) -> Told
     requires { ⌜ Reached s ⌝ }
     ensures { λ r. ⌜ (r ≡ steppedBy s (length (now (journal .entry))) request) × (now (journal .exit) ≡ journalAfter s (now (journal .entry)) request) ⌝ }
 {
-    let last = step(s, request, journal);
-    let board = last.board;
-    let answer = last.answer;
-    let bytes = encode(request[1], answer);
+    let mut bytes = [0u8; 12];
+    let board = serve(s, &request, &mut bytes, journal);
     Told { board, bytes }
 }

@@ -1,11 +1,13 @@
 // A whole run with a journal.
-use crate::host::Told;
 use crate::host::fresh;
-use crate::host::tell;
 use journal::Journaled;
+use journal::Stepped;
+use journal::step;
 use lent::pieces::eight;
 use lent::pieces::put;
 use lent::pieces::put_values;
+use wire::Answer;
+use wire::answers::encode;
 ghost use mathlib.Core.Path.{_≡_};
 ghost use mathlib.Core.List.{_++_};
 ghost use Prim.Native.Nat.{_*_, _/_, _≤_};
@@ -13,37 +15,39 @@ ghost use lib.ListN.{length, drop};
 ghost use Rattle.runs.specs.Runs.{after};
 ghost use Rattle.lent.specs.Pieces.{eightsIn, served};
 ghost use Rattle.lent.specs.Refusals.{refusal};
-ghost use Rattle.journal.specs.Journal.{opened, next, reply, journalAfter};
+ghost use Rattle.journal.specs.Journal.{opened, step, next, reply, journalAfter};
 ghost use Rattle.journal.specs.Reached.{Reached};
-ghost use Rattle.journaling.specs.Run.{Outcome, completed, steppedBy};
+ghost use Rattle.journaling.specs.Run.{Outcome, completed};
 
 // A run's next request, from what the one before it left.
-fn next(last: Told, request: [u8; 8], journal: &mut [u8]) -> Told
+fn next(last: Stepped, request: [u8; 8], journal: &mut [u8]) -> Stepped
     requires { ⌜ Reached (last .board) ⌝ }
-    ensures { λ r. ⌜ r ≡ steppedBy (last .board) (length (now (journal .entry))) request ⌝ }
+    ensures { λ r. ⌜ r ≡ step (last .board) (length (now (journal .entry))) request ⌝ }
     ensures { λ _. ⌜ now (journal .exit) ≡ journalAfter (last .board) (now (journal .entry)) request ⌝ }
 {
     let board = last.board;
-    tell(board, request, journal)
+    step(board, request, journal)
 }
 
-// Hands the requests over one at a time and writes each answer after the one before it.
-fn serve(start: Journaled, requests: &[u8], answers: &mut [u8], journal: &mut [u8]) -> Journaled
+// Hands the requests over one at a time and writes each answer after the one before it. The loop carries what the last request left:
+// so the board is copied no more than it must be.
+pub fn serve(start: Journaled, requests: &[u8], answers: &mut [u8], journal: &mut [u8]) -> Journaled
     requires { ⌜ Reached start ⌝ }
     requires { ⌜ 12 * (length (now requests) / 8) ≤ length (now answers) ⌝ }
     ensures { λ r. ⌜ record { kept = r; journal = now (journal .exit) } ≡ after next (record { kept = start; journal = now (journal .entry) }) (eightsIn (now (requests .entry))) ⌝ }
     ensures { λ r. ⌜ now (answers .exit) ≡ served next reply (record { kept = start; journal = now (journal .entry) }) (eightsIn (now (requests .entry))) ++ drop (12 * (length (now (requests .entry)) / 8)) (now (answers .entry)) ⌝ }
 {
     let count = requests.len() / 8;
-    let mut last = Told {
+    let mut last = Stepped {
         board: start,
-        bytes: [0; 12],
+        answer: Answer::Abandoned,
     };
     let mut k = 0;
     while k < count {
         let request = eight(requests, 8 * k);
         last = next(last, request, journal);
-        let bytes = last.bytes;
+        let answer = last.answer;
+        let bytes = encode(request[1], answer);
         put(answers, 12 * k, &bytes);
         k += 1;
     }

@@ -47,7 +47,8 @@ use Rattle.board.proofs.Board as B
 use Rattle.board.proofs.Board.Laws as B′
 use Rattle.serving.proofs.host.Told as T
 use Rattle.serving.proofs.host.Told.Laws as T′
-use Rattle.serving.proofs.Machine.{Eight, Twelve, bytes-vals, board-vals}
+use Rattle.lent.proofs.Machine.{Eight, Twelve, bytes-vals}
+use Rattle.serving.proofs.Machine.{board-vals}
 use Rattle.serving.proofs.host.tell as tell
 use Rattle.serving.proofs.host.tell.Symbol as tell-def
 use Rattle.serving.proofs.host.tell.Symbol.{name as #serving·tell}

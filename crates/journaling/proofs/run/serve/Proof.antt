@@ -12,10 +12,9 @@ use Rattle.wire.specs.Answers.{encode}
 use Rattle.lent.specs.Pieces.{eightsOf, twelveEach, served}
 use Rattle.lent.proofs.Buffers.{turn}
 use Rattle.lent.proofs.Served.{eightAt, encode-length, next-board, next-answer, answers-length, part-bytes}
-use Rattle.journal.specs.Journal.{Ledger, next, reply, journalAfter}
+use Rattle.journal.specs.Journal.{Ledger, step, next, reply, journalAfter}
 use Rattle.journal.specs.Reached.{Reached}
-use Rattle.journaling.specs.Run.{steppedBy}
-use Rattle.journaling.specs.declared.host.Told.{Told}
+use Rattle.journal.specs.declared.Stepped.{Stepped}
 use Rattle.journal.proofs.Kept.{reached-call}
 use Rattle.journaling.proofs.run.serve.Statement.{statement}
 use Rattle.journaling.proofs.run.serve.Tie as tie
@@ -46,6 +45,12 @@ eight-requires c κs = search needs
 next-requires : tie.Need-next-requires Inv-loop μ-loop
 next-requires c κs = c .before .before .before .loop .inv .5
 
+array-read-encode : tie.Need-array-read-encode Inv-loop μ-loop
+array-read-encode c = search needs
+
+encode-requires : tie.Need-encode-requires Inv-loop μ-loop
+encode-requires c κs = search needs
+
 mul-put : tie.Need-mul-put Inv-loop μ-loop
 mul-put c = search needs
 
@@ -53,10 +58,7 @@ slice-aggregate-put : tie.Need-slice-aggregate-put Inv-loop μ-loop
 slice-aggregate-put c = search needs
 
 put-requires : tie.Need-put-requires Inv-loop μ-loop
-unfolding steppedBy
-put-requires c κs =
-    let bytes = ap (λ (r : Told). length (r .bytes)) (c .before .before .before .before .before .next .ensures .0) in
-    omega (arith, bytes ∙ encode-length _ _)
+put-requires c κs = omega (arith, ap length (c .before .before .encode .ensures) ∙ encode-length _ _)
 
 add-k : tie.Need-add-k Inv-loop μ-loop
 add-k c = search needs
@@ -65,10 +67,10 @@ loop-less : tie.Need-loop-less Inv-loop μ-loop
 loop-less c = search needs
 
 loop-again : tie.Need-loop-again Inv-loop μ-loop
-unfolding steppedBy
 loop-again c =
     let at-put = c .before .before in
-    let at-next = at-put .before .before .before .before .before .before in
+    let at-encode = at-put .before .before .before in
+    let at-next = at-encode .before .before .before in
     let at-eight = at-next .before .before in
     let l = at-eight .before .before in
     let a = l .before .before .before .before .args in
@@ -78,13 +80,14 @@ loop-again c =
     let k = l .loop .k in
     let q = eightAt s k in
     let asked : at-eight .eight .result ≡ q = at-eight .eight .ensures in
-    let stepped : at-next .next .result ≡ steppedBy (now .kept) (length (now .journal)) q = at-next .next .ensures .0 ∙ ap (steppedBy (now .kept) (length (now .journal))) asked in
+    let stepped : at-next .next .result ≡ step (now .kept) (length (now .journal)) q = at-next .next .ensures .0 ∙ ap (step (now .kept) (length (now .journal))) asked in
     let journal : at-next .next .last .1 .1 .0 ≡ journalAfter (now .kept) (now .journal) q = at-next .next .ensures .1 ∙ ap (journalAfter (now .kept) (now .journal)) asked in
     let ledger : record { kept = at-next .next .result .board; journal = at-next .next .last .1 .1 .0 } ≡ next now q = λ i. record { kept = stepped i .board; journal = journal i } in
-    let told : at-next .next .result .bytes ≡ encode (byte q 1) (reply (after next start (eightsOf s k)) q) = ap (λ (r : Told). r .bytes) stepped ∙ ap (λ (d : Ledger). encode (byte q 1) (reply d q)) (l .loop .inv .1) in (
+    let told : at-encode .encode .result ≡ encode (byte q 1) (reply (after next start (eightsOf s k)) q) =
+        at-encode .encode .ensures ∙ (λ i. encode (byte (asked i) 1) (stepped i .answer)) ∙ ap (λ (d : Ledger). encode (byte q 1) (reply d q)) (l .loop .inv .1) in (
       omega arith,
       ledger ∙ ap (λ (d : Ledger). next d q) (l .loop .inv .1) ∙ sym (next-board next reply start s k),
-      turn (λ n. served next reply start (eightsOf s n)) 12 k (a .answers .now) (l .loop .answers) (at-put .put .last .0) (at-next .next .result .bytes)
+      turn (λ n. served next reply start (eightsOf s n)) 12 k (a .answers .now) (l .loop .answers) (at-put .put .last .0) (at-encode .encode .result)
           (answers-length next reply start s k) (next-answer next reply start s k ∙ ap (λ (r : List ℕ). served next reply start (eightsOf s k) ++ r) (sym told)) (ap length told ∙ encode-length _ _) (l .loop .inv .2) (at-put .put .ensures),
       at-put .put .kept .0 ∙ l .loop .inv .3,
       at-next .next .kept .1 .1 .0 ∙ l .loop .inv .4,
@@ -113,6 +116,8 @@ serve-spec =
     mul-eight
     eight-requires
     next-requires
+    array-read-encode
+    encode-requires
     mul-put
     slice-aggregate-put
     put-requires

@@ -54,7 +54,8 @@ use Rattle.wire.proofs.Answer as N
 use Rattle.wire.proofs.Answer.Laws as N′
 use Rattle.board.proofs.Stepped as S
 use Rattle.board.proofs.Stepped.Laws as S′
-use Rattle.serving.proofs.Machine.{Eight, bytes-vals, board-vals, answer-vals}
+use Rattle.lent.proofs.Machine.{Eight, bytes-vals}
+use Rattle.serving.proofs.Machine.{board-vals, answer-vals}
 use Rattle.serving.proofs.lending.step_in as step-in
 use Rattle.serving.proofs.lending.step_in.Symbol as step-in-def
 use Rattle.serving.proofs.lending.step_in.Symbol.{name as #serving·step-in}

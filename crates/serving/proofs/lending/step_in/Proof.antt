@@ -17,7 +17,8 @@ use denote.Triple.Table.{entered, cited}
 use Rattle.board.specs.Rules.{step}
 use Rattle.board.specs.Reached.{Reached}
 use Rattle.board.specs.declared.Stepped.{Stepped}
-use Rattle.serving.proofs.Machine.{Eight, bytes-vals, answer-vals}
+use Rattle.lent.proofs.Machine.{Eight, bytes-vals}
+use Rattle.serving.proofs.Machine.{answer-vals}
 use Rattle.serving.proofs.Thin.{Plainly, plainly, Lawed, Apart, Wrapping, Wrapped, wraps}
 use Rattle.board.proofs.Board as B
 use Rattle.board.proofs.Board.Laws as B′

@@ -6,8 +6,8 @@ use mir.Syntax.{w64}
 use mir.Facts.{toZ-ofZ}
 use Rattle.journaling.specs.Run.{told, outcome}
 use Rattle.lent.proofs.Refused.{refused-run, completed-run}
-use Rattle.hub.proofs.hub_run_journal.Statement.{statement}
-use Rattle.hub.proofs.hub_run_journal.Tie as tie
+use Rattle.hub_journal.proofs.hub_run_journal.Statement.{statement}
+use Rattle.hub_journal.proofs.hub_run_journal.Tie as tie
 
 refusal-requires : tie.Need-refusal-requires
 refusal-requires c κs = search needs

@@ -55,12 +55,12 @@ use Rattle.journaling.proofs.host.tell as tell
 use Rattle.journaling.proofs.host.tell.Symbol as tell-def
 use Rattle.journaling.proofs.host.tell.Symbol.{name as #journaling·tell}
 use Rattle.journaling.proofs.host.tell.Met as tell-thm
-use Rattle.serving.proofs.Machine.{Eight, Twelve, bytes-vals}
-use Rattle.hub.proofs.Journal.{journaled-vals}
-use Rattle.hub.proofs.hub_step_journal.Key.{name as #hub·hub-step-journal}
-use Rattle.hub.proofs.hub_step_journal as hub-step-journal
-use Rattle.hub.proofs.hub_step_journal.Statement as stated
-use Rattle.hub.proofs.hub_step_journal.Code as code
+use Rattle.lent.proofs.Machine.{Eight, Twelve, bytes-vals}
+use Rattle.hub_journal.proofs.Journal.{journaled-vals}
+use Rattle.hub_journal.proofs.hub_step_journal.Key.{name as #hub_journal·hub-step-journal}
+use Rattle.hub_journal.proofs.hub_step_journal as hub-step-journal
+use Rattle.hub_journal.proofs.hub_step_journal.Statement as stated
+use Rattle.hub_journal.proofs.hub_step_journal.Code as code
 
 -- what the struct that `tell` returns is made of. In its laws a list in an array's place is `map (λ v. v)` of it
 parts : (r : Told) (v : Val) → Is T.the-row r (v ∷ []) → v ≡ vstruct (vcons (only (journaled-vals (r .board))) (vcons (only (bytes-vals (r .bytes))) vnil))
@@ -177,6 +177,6 @@ pub hub-step-journal-spec : {M : Type 1} → stated.statement M
 unfolding code.routine tablesOf
 hub-step-journal-spec 𝓤 H 𝓜 𝓖 𝓡 =
     entered 𝓤 H (tripleOf 𝓤 H (𝓖 .A) hub-step-journal.signature (hub-step-journal.spec 𝓤 H (𝓖 .A) (𝓜 .mem) (𝓡 .run)))
-    (tables 𝓤 H 𝓜 𝓡 code.env .C) (tables 𝓤 H 𝓜 𝓡 code.env .Λ) #hub·hub-step-journal code.function (code.unfolded 𝓤 H 𝓜 𝓡)
+    (tables 𝓤 H 𝓜 𝓡 code.env .C) (tables 𝓤 H 𝓜 𝓡 code.env .Λ) #hub_journal·hub-step-journal code.function (code.unfolded 𝓤 H 𝓜 𝓡)
     (hub-step-journal-meets 𝓤 H (𝓖 .A) (givenOf 𝓤 H 𝓜 𝓖) (𝓜 .mem) (𝓡 .run) (tablesOf 𝓤 H 𝓜 (tables 𝓤 H 𝓜 𝓡 code.env))
     (cited 𝓤 H (Tell 𝓤 H (𝓖 .A) (givenOf 𝓤 H 𝓜 𝓖) (𝓜 .mem) (𝓡 .run)) 𝓜 𝓡 code.env #journaling·tell tell-def.routine code.calls-journaling·host·tell (tell-thm.met 𝓤 H 𝓜 𝓖 𝓡)))

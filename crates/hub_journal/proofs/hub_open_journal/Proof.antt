@@ -51,11 +51,11 @@ use Rattle.journaling.proofs.host.open as open-fn
 use Rattle.journaling.proofs.host.open.Symbol as open-def
 use Rattle.journaling.proofs.host.open.Symbol.{name as #journaling·open}
 use Rattle.journaling.proofs.host.open.Met as open-thm
-use Rattle.hub.proofs.Journal.{journaled-vals}
-use Rattle.hub.proofs.hub_open_journal.Key.{name as #hub·hub-open-journal}
-use Rattle.hub.proofs.hub_open_journal as hub-open-journal
-use Rattle.hub.proofs.hub_open_journal.Statement as stated
-use Rattle.hub.proofs.hub_open_journal.Code as code
+use Rattle.hub_journal.proofs.Journal.{journaled-vals}
+use Rattle.hub_journal.proofs.hub_open_journal.Key.{name as #hub_journal·hub-open-journal}
+use Rattle.hub_journal.proofs.hub_open_journal as hub-open-journal
+use Rattle.hub_journal.proofs.hub_open_journal.Statement as stated
+use Rattle.hub_journal.proofs.hub_open_journal.Code as code
 
 -- the table's type
 abbrev Table : Lft → RattleType
@@ -171,6 +171,6 @@ pub hub-open-journal-spec : {M : Type 1} → stated.statement M
 unfolding code.routine tablesOf
 hub-open-journal-spec 𝓤 H 𝓜 𝓖 𝓡 =
     entered 𝓤 H (tripleOf 𝓤 H (𝓖 .A) hub-open-journal.signature (hub-open-journal.spec 𝓤 H (𝓖 .A) (𝓜 .mem) (𝓡 .run)))
-    (tables 𝓤 H 𝓜 𝓡 code.env .C) (tables 𝓤 H 𝓜 𝓡 code.env .Λ) #hub·hub-open-journal code.function (code.unfolded 𝓤 H 𝓜 𝓡)
+    (tables 𝓤 H 𝓜 𝓡 code.env .C) (tables 𝓤 H 𝓜 𝓡 code.env .Λ) #hub_journal·hub-open-journal code.function (code.unfolded 𝓤 H 𝓜 𝓡)
     (hub-open-journal-meets 𝓤 H (𝓖 .A) (givenOf 𝓤 H 𝓜 𝓖) (𝓜 .mem) (𝓡 .run) (tablesOf 𝓤 H 𝓜 (tables 𝓤 H 𝓜 𝓡 code.env))
     (cited 𝓤 H (Open 𝓤 H (𝓖 .A) (givenOf 𝓤 H 𝓜 𝓖) (𝓜 .mem) (𝓡 .run)) 𝓜 𝓡 code.env #journaling·open open-def.routine code.calls-journaling·host·open (open-thm.met 𝓤 H 𝓜 𝓖 𝓡)))
