@@ -14,3 +14,7 @@ pub use steps::{Board, Space, BOARD_BYTES, GUARD_BYTES};
 
 /// The archive that was linked.
 pub const ARCHIVE: &str = env!("HUB_ARCHIVE");
+
+/// That of the calls with a journal.
+#[cfg(feature = "journal")]
+pub const JOURNAL_ARCHIVE: &str = env!("HUB_JOURNAL_ARCHIVE");

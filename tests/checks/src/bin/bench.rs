@@ -92,15 +92,18 @@ fn rates(ways: &[Way], cases: &[Case], requests: usize) -> Vec<f64> {
     times.iter_mut().map(median).collect()
 }
 
-/// Bytes of code in the archive: the text column of `size`, summed.
-fn text_bytes() -> Option<u64> {
-    let output = Command::new("size").arg(library::ARCHIVE).output().ok()?;
-    let text = String::from_utf8(output.stdout).ok()?;
-    let rows = text.lines().skip(1);
-    Some(
-        rows.filter_map(|row| row.split_whitespace().next()?.parse::<u64>().ok())
-            .sum(),
-    )
+/// Bytes of code in an archive: the text column of `size`, summed.
+fn text_bytes(archive: &str) -> String {
+    let sum = || {
+        let output = Command::new("size").arg(archive).output().ok()?;
+        let text = String::from_utf8(output.stdout).ok()?;
+        let rows = text.lines().skip(1);
+        Some(
+            rows.filter_map(|row| row.split_whitespace().next()?.parse::<u64>().ok())
+                .sum::<u64>(),
+        )
+    };
+    sum().map_or("unknown".to_string(), |bytes| bytes.to_string())
 }
 
 fn main() {
@@ -152,17 +155,18 @@ fn main() {
         }];
         println!("  {name:>17} {rate:>12.0}  ratio {:.3}", rate / baseline);
     }
-    let text = text_bytes().map_or("unknown".to_string(), |bytes| bytes.to_string());
     println!(
-        "bench requests_per_second={:.0} ratio={:.3} text_bytes={text}",
+        "bench requests_per_second={:.0} ratio={:.3} text_bytes={}",
         rates[0],
-        rates[0] / rates[plain]
+        rates[0] / rates[plain],
+        text_bytes(library::ARCHIVE)
     );
     #[cfg(feature = "journal")]
     println!(
-        "bench_journal requests_per_second={:.0} ratio={:.3} of_hub_run={:.3}",
+        "bench_journal requests_per_second={:.0} ratio={:.3} of_hub_run={:.3} text_bytes={}",
         rates[plain + 1],
         rates[plain + 1] / rates[plain + 2],
-        rates[plain + 1] / rates[0]
+        rates[plain + 1] / rates[0],
+        text_bytes(library::JOURNAL_ARCHIVE)
     );
 }
