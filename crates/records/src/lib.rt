@@ -51,7 +51,14 @@ pub fn room(length: usize) -> usize
 }
 
 // Puts the record of item i into the journal, from index at on, if it was written; the index after it.
-fn put_item(journal: &mut [u8], at: usize, written: Items, i: usize, number: Number, value: u32) -> usize
+fn put_item(
+    journal: &mut [u8],
+    at: usize,
+    written: Items,
+    i: usize,
+    number: Number,
+    value: u32,
+) -> usize
     requires { ⌜ i < 64 ⌝ }
     requires { ⌜ at + 8 ≤ length (now journal) ⌝ }
     ensures { λ r. ⌜ r ≡ at + length (inOne (itemRecord written i (number .0) value)) ⌝ }

@@ -63,15 +63,25 @@ module _ (t : List ℕ) (w : Items) (f : ℕ → ℕ) (c : ℕ) (vs : List ℕ) 
       let r = recordOf 1 i (c + 1) (f i) in
       by-test (has w i)
       (λ yes.
-      let one : itemRecord w i (c + 1) (f i) ≡ r ∷ [] = rw yes in
-      (i + 1, (omega arith, after-two (read t) (clean c vs) items (itemRecord w i (c + 1) (f i)) ∙ ap (after (read t) (after (read t) (clean c vs) items)) one
-      ∙ ap (λ (at : Reading). read t at r) (before .1 .1) ∙ one-item i next (omega arith) (before .1 .0) yes)))
+      let one : itemRecord w i (c + 1) (f i) ≡ r ∷ [] = rw yes in (
+        i + 1,
+        (
+          omega arith,
+          after-two (read t) (clean c vs) items (itemRecord w i (c + 1) (f i)) ∙ ap (after (read t) (after (read t) (clean c vs) items)) one
+              ∙ ap (λ (at : Reading). read t at r) (before .1 .1) ∙ one-item i next (omega arith) (before .1 .0) yes,
+        ),
+      ))
       (λ no.
       let none : itemRecord w i (c + 1) (f i) ≡ [] = rw no in
       let counted : countBelow w i ≡ countBelow w (suc i) = rw no (omega arith) in
-      let same : filled (has w) f i vs ≡ filled (has w) f (suc i) vs = rw no in
-      (next, (omega (arith, before .1 .0), after-two (read t) (clean c vs) items (itemRecord w i (c + 1) (f i)) ∙ ap (after (read t) (after (read t) (clean c vs) items)) none
-      ∙ before .1 .1 ∙ (λ k. record { commits = c; whole = vs; items = counted k; next = next; values = same k; stopped = false }))))
+      let same : filled (has w) f i vs ≡ filled (has w) f (suc i) vs = rw no in (
+        next,
+        (
+          omega (arith, before .1 .0),
+          after-two (read t) (clean c vs) items (itemRecord w i (c + 1) (f i)) ∙ ap (after (read t) (after (read t) (clean c vs) items)) none
+              ∙ before .1 .1 ∙ (λ k. record { commits = c; whole = vs; items = counted k; next = next; values = same k; stopped = false }),
+        ),
+      ))
 
   pub entry-read : after (read t) (clean c vs) (entry w f (c + 1)) ≡ clean (c + 1) (installed w f vs)
   entry-read =

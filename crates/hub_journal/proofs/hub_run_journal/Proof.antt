@@ -23,7 +23,7 @@ returns c =
     ∙ refused-run (λ z. told z (a .answers .now) (a .values .now) (a .journal .now)) _ _ _ (c .before .before .refusal .ensures) (c .before .if1 .taken)
 
 complete-requires : tie.Need-complete-requires
-complete-requires c κs = search needs
+complete-requires c κs = sym (c .before .before .before .if1 .left) ∙ c .before .before .before .before .refusal .ensures
 
 same-length : tie.Need-same-length
 same-length c = search needs

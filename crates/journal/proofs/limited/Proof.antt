@@ -1,8 +1,9 @@
 -- By the room where the answer is a commit; any other stands.
 use Prim.Native.Nat.{_+_}
-use mathlib.Core.Path.{sym}
+use mathlib.Core.Path.{_≡_, sym}
 use native.Mathlib.Omega.{arith}
 use borrow.Author.Tests.{lt-ltb, le-ltb}
+use Rattle.wire.specs.declared.Answer.the-variants.{Committed}
 use Rattle.desks.specs.Desks.{idle}
 use Rattle.records.specs.Records.{sizeOf}
 use Rattle.records.proofs.Sizes.{count-below}
@@ -23,7 +24,8 @@ add-if1 c = record { fits = omega (arith, c .size .ensures, count-below (c .befo
 returns : tie.Need-returns
 returns c =
     let a = c .before .before .before .before .before .args in
-    rw (c .before .before .before .answer .given .1, lt-ltb (a .room) (a .used + sizeOf (a .written)) (omega (arith, c .before .size .ensures)))
+    let commits : a .answer ≡ Committed _ = c .before .before .before .answer .given .1 in
+    rw (commits, lt-ltb (a .room) (a .used + sizeOf (a .written)) (omega (arith, c .before .size .ensures)))
 
 returns-2 : tie.Need-returns-2
 returns-2 c =

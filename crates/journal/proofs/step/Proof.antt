@@ -4,11 +4,12 @@ use mathlib.Core.Path.{_≡_, ap, _∙_}
 use native.Mathlib.Omega.{arith}
 use lib.ListN.{length}
 use Rattle.wire.specs.Requests.{decode, deskOf}
+use Rattle.wire.specs.Answers.{itemOf}
 use Rattle.board.specs.Rules.{deskAt, follow}
-use Rattle.board.proofs.Bounds.{desk-low}
+use Rattle.board.proofs.Bounds.{desk-low, answer-item}
 use Rattle.board.proofs.Reached.{reached-sound, sound-counted}
 use Rattle.records.specs.Records.{sizeOf, room, over}
-use Rattle.journal.specs.Journal.{answerIn, added, step, journalAfter}
+use Rattle.journal.specs.Journal.{limited, answerIn, added, step, journalAfter}
 use Rattle.journal.proofs.Room.{limited-twice}
 use Rattle.journal.proofs.Kept.{reached-fine, answer-in-item}
 use borrow.Author.Needs.{needs}
@@ -53,17 +54,19 @@ told c =
     c .limited .ensures ∙ rw (c .before .room .ensures, c .before .before .answer .ensures, c .before .before .before .before .desk-of .ensures, asked)
 
 follow-requires : tie.Need-follow-requires
-follow-requires c κs = (
-  rw (c .before .before .before .before .before .before .before .decode .ensures) (desk-low _),
-  rw (told c) (answer-in-item _ _ _),
-)
+follow-requires c κs =
+    let first : itemOf (c .before .before .answer .result) < 64 = rw (c .before .before .answer .ensures) (answer-item _ _) in
+    let given : itemOf (c .limited .result) < 64 = rw (told c) (answer-in-item _ _ _) in
+    (rw (c .before .before .before .before .before .before .before .decode .ensures) (desk-low _), omega (arith, first, given))
 
 recorded-requires : tie.Need-recorded-requires
 recorded-requires c κs =
     let m = c .before .before in
     let a = m .before .before .before .before .before .before .before .before .before .args in
     let need = a .s .used + sizeOf (deskAt (a .s .board) (m .before .before .before .before .desk-of .result) .written) in
-    rw (m .limited .ensures, m .before .room .ensures) (limited-twice need (room (length (a .journal .now))) (m .before .before .answer .result))
+    let most = room (length (a .journal .now)) in
+    let stands : limited need most (m .limited .result) ≡ m .limited .result = rw (m .limited .ensures, m .before .room .ensures) (limited-twice need most (m .before .before .answer .result)) in
+    stands
 
 same-length : tie.Need-same-length
 same-length c = search needs

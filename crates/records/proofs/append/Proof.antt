@@ -1,5 +1,5 @@
 -- The invariant: the records of the items below i stand in their places, and all else is as it was.
-use Prim.Native.Nat.{ℕ, _+_, _*_, _≤_, _-_}
+use Prim.Native.Nat.{ℕ, _+_, _*_, _/_, _≤_, _-_}
 use mathlib.Core.Path.{_≡_, refl, ap, sym, _∙_}
 use mathlib.Core.List.{List, [], _∷_}
 use native.Mathlib.Omega.{arith}
@@ -54,10 +54,11 @@ loop-again c =
     let f = copyOf (a .k) in
     let n = a .number .0 in
     let i = l .loop .i in
-    let long : l .loop .next ≡ a .at + length (inOne (itemRecords w f n i)) = omega (arith, items-length w f n i, l .loop .inv .1) in (
+    let long : l .loop .next ≡ a .at + length (inOne (itemRecords w f n i)) = omega (arith, items-length w f n i, l .loop .inv .1) in
+    let put : at-put .put-item .last .0 ≡ over (l .loop .journal) (l .loop .next) (inOne (itemRecord w i n (f i))) = at-put .put-item .ensures .1 in (
       omega arith,
       rw count-suc (omega (arith, at-put .put-item .ensures .0, item-length w i n (f i), l .loop .inv .1)),
-      at-put .put-item .ensures .1
+      put
           ∙ ap (λ (j : List ℕ). over j (l .loop .next) (inOne (itemRecord w i n (f i)))) (l .loop .inv .2)
           ∙ over-more (a .journal .now) (a .at) (inOne (itemRecords w f n i)) (inOne (itemRecord w i n (f i))) (l .loop .next) (omega arith) long
           ∙ ap (over (a .journal .now) (a .at)) (sym (items-suc w f n i)),
@@ -105,9 +106,11 @@ returns c =
     let e : l .loop .i ≡ 64 = omega arith in
     let long : l .loop .next ≡ a .at + 8 * countBelow w 64 = rw e at (l .loop .inv .1) in
     let front : l .loop .journal ≡ over (a .journal .now) (a .at) (inOne (itemRecords w f n 64)) = rw e at (l .loop .inv .2) in
-    let closing : at-record .record .result ≡ recordOf 2 0 n (countBelow w 64) = at-record .record .ensures ∙ ap (recordOf 2 0 n) (omega arith) in (
+    let last : at-record .record .result ≡ recordOf 2 0 n ((l .loop .next - a .at) / 8) = at-record .record .ensures in
+    let closing : at-record .record .result ≡ recordOf 2 0 n (countBelow w 64) = last ∙ ap (recordOf 2 0 n) (omega arith) in
+    let put : at-put .put .last .0 ≡ over (l .loop .journal) (l .loop .next) (at-record .record .result) = at-put .put .ensures in (
       omega (arith, entry-length w f n),
-      at-put .put .ensures
+      put
           ∙ (λ i. over (front i) (l .loop .next) (closing i))
           ∙ over-more (a .journal .now) (a .at) (inOne (itemRecords w f n 64)) (recordOf 2 0 n (countBelow w 64)) (l .loop .next) (omega arith) (omega (arith, items-length w f n 64))
           ∙ ap (over (a .journal .now) (a .at)) (sym (inOne-append (itemRecords w f n 64) (recordOf 2 0 n (countBelow w 64) ∷ []))),

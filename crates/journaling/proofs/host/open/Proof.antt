@@ -1,6 +1,7 @@
 -- By the test of the table.
 use mathlib.Core.Path.{sym, _∙_}
 use borrow.Author.Needs.{needs}
+use lib.IntN.{pos}
 use Rattle.journaling.specs.Run.{openedBy, journalOpened}
 use Rattle.journaling.proofs.host.open.Statement.{statement}
 use Rattle.journaling.proofs.host.open.Tie as tie
@@ -23,7 +24,7 @@ unfolding openedBy journalOpened
 returns-2 c =
     let at-fresh = c .before .before in
     let right = at-fresh .before .before in
-    (rw (← right .before .wrong .ensures, right .if1 .left, at-fresh .fresh .ensures .0), rw (← right .before .wrong .ensures, right .if1 .left) (at-fresh .fresh .ensures .1))
+    (rw (← right .before .wrong .ensures, right .if1 .left) (λ i. record { board = at-fresh .fresh .ensures .0 i; code = pos 0 }), rw (← right .before .wrong .ensures, right .if1 .left) (at-fresh .fresh .ensures .1))
 
 pub open-spec : {M : Type 1} → statement M
 open-spec = tie.close (tie.spec wrong-requires returns fresh-requires same-length returns-2)

@@ -59,7 +59,8 @@ returns c =
     let began : record { kept = at-fresh .fresh .result; journal = at-fresh .fresh .last .1 .0 } ≡ opened (a .table .now) (a .journal .now) = λ i. record { kept = at-fresh .fresh .ensures .0 i; journal = at-fresh .fresh .ensures .1 i } in
     let left = at-serve .serve .ensures .0 ∙ ap (λ (l : Ledger). after next l (eightsIn q)) began in
     let answers = at-serve .serve .ensures .1 ∙ ap (λ (l : Ledger). served next reply l (eightsIn q) ++ drop (12 * (length q / 8)) (a .answers .now)) began in
-    let values = at-values .put-values .ensures ∙ ap (λ (l : Ledger). fourEach (l .kept .board .values) ++ drop 256 (a .values .now)) left in
+    let put : at-values .put-values .last .0 ≡ fourEach (at-serve .serve .result .board .values) ++ drop 256 (a .values .now) = at-values .put-values .ensures in
+    let values = put ∙ ap (λ (l : Ledger). fourEach (l .kept .board .values) ++ drop 256 (a .values .now)) left in
     rw (n, count) (λ i. told (pos (length q / 8)) (answers i) (values i) (left i .journal))
 
 pub complete-spec : {M : Type 1} → statement M

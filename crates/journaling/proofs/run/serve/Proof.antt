@@ -84,7 +84,7 @@ loop-again c =
     let journal : at-next .next .last .1 .1 .0 ≡ journalAfter (now .kept) (now .journal) q = at-next .next .ensures .1 ∙ ap (journalAfter (now .kept) (now .journal)) asked in
     let ledger : record { kept = at-next .next .result .board; journal = at-next .next .last .1 .1 .0 } ≡ next now q = λ i. record { kept = stepped i .board; journal = journal i } in
     let told : at-encode .encode .result ≡ encode (byte q 1) (reply (after next start (eightsOf s k)) q) =
-        at-encode .encode .ensures ∙ (λ i. encode (byte (asked i) 1) (stepped i .answer)) ∙ ap (λ (d : Ledger). encode (byte q 1) (reply d q)) (l .loop .inv .1) in (
+    at-encode .encode .ensures ∙ (λ i. encode (byte (asked i) 1) (stepped i .answer)) ∙ ap (λ (d : Ledger). encode (byte q 1) (reply d q)) (l .loop .inv .1) in (
       omega arith,
       ledger ∙ ap (λ (d : Ledger). next d q) (l .loop .inv .1) ∙ sym (next-board next reply start s k),
       turn (λ n. served next reply start (eightsOf s n)) 12 k (a .answers .now) (l .loop .answers) (at-put .put .last .0) (at-encode .encode .result)

@@ -3,7 +3,8 @@ use borrow.Author.Needs.{needs}
 use mathlib.Core.Path.{_≡_, ap, _∙_}
 use Prim.Native.Nat.{ℕ, _+_, _-_}
 use native.Mathlib.Omega.{arith}
-use lib.ListN.{take, drop, replicate, length-take, length-drop}
+use lib.ListN.{length, take, drop, replicate, length-take, length-drop}
+use lib.Seq.{paste}
 use Rattle.lent.proofs.Buffers.{paste-all}
 use Rattle.lent.proofs.pieces.eight.Statement.{statement}
 use Rattle.lent.proofs.pieces.eight.Tie as tie
@@ -30,9 +31,9 @@ returns : tie.Need-returns
 returns c =
     let a = c .before .before .before .before .before .args in
     let e : a .at + 8 - a .at ≡ 8 = omega arith in
-    c .before .put .ensures
-    ∙ paste-all (replicate 8 0) (take (a .at + 8 - a .at) (drop (a .at) (a .bytes .now))) (simp (length-take, length-drop) (omega arith))
-    ∙ ap (λ (n : ℕ). take n (drop (a .at) (a .bytes .now))) e
+    let part = take (a .at + 8 - a .at) (drop (a .at) (a .bytes .now)) in
+    let over : c .before .put .last .0 ≡ paste (replicate 8 0) 0 part (length part) = c .before .put .ensures in
+    over ∙ paste-all (replicate 8 0) part (simp (length-take, length-drop) (omega arith)) ∙ ap (λ (n : ℕ). take n (drop (a .at) (a .bytes .now))) e
 
 pub eight-spec : {M : Type 1} → statement M
 eight-spec =
