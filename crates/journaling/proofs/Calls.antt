@@ -1,21 +1,21 @@
 -- Calls of hub_step_journal say what a run with a journal says: the same rules one request at a time.
 use Prim.Native.Nat.{ℕ, _*_}
-use mathlib.Core.Path.{_≡_, refl, ap, sym, _∙_, subst}
+use mathlib.Core.Path.{_≡_, ap, sym, _∙_, subst}
 use mathlib.Core.Bool.{false}
-use mathlib.Core.List.{List, [], _∷_}
+use mathlib.Core.List.{List}
 use native.Mathlib.Omega.{arith}
 use lib.ListN.{length}
 use Rattle.items.proofs.Tests.{by-test}
-use Rattle.runs.specs.Runs.{after}
 use Rattle.words.specs.Bytes.{Bytes}
 use Rattle.wire.specs.Table.{wrong}
 use Rattle.wire.proofs.Rows.{right-long}
-use Rattle.lent.specs.Pieces.{eightsIn, inOne, twelveEach, served}
+use Rattle.lent.specs.Pieces.{eightsIn, inOne}
 use Rattle.lent.proofs.Refused.{refuses-none, completed-run}
+use Rattle.lent.proofs.Served.{written-served}
 use Rattle.lent.proofs.InOne.{eight-long, inOne-length, apart}
-use Rattle.journal.specs.Journal.{Ledger, opened, next, reply}
+use Rattle.journal.specs.Journal.{opened, next, reply}
 use Rattle.journaling.specs.Run.{told, completed, outcome, openedBy, journalOpened, steppedBy}
-use Rattle.journaling.specs.Calls.{left, written, OpenReaches, OpenKeeps, StepKeeps, CallsAreRun}
+use Rattle.journaling.specs.Calls.{OpenReaches, OpenKeeps, StepKeeps, CallsAreRun}
 use Rattle.journal.specs.declared.Journaled.{Journaled}
 use Rattle.journal.proofs.Kept.{reached-fresh, reached-call}
 
@@ -41,19 +41,9 @@ opened-right : (s : Journaled) (t j : List ℕ) → wrong t ≡ false → record
 unfolding openedBy journalOpened
 opened-right s t j right = rw right
 
-left-after : (l : Ledger) (qs : List (List ℕ)) → after left l qs ≡ after next l qs
-unfolding steppedBy
-left-after l [] = refl
-left-after l (q ∷ qs) = left-after (next l q) qs
-
-written-served : (l : Ledger) (qs : List (List ℕ)) → written l qs ≡ served next reply l qs
-unfolding steppedBy twelveEach
-written-served l [] = refl
-written-served l (q ∷ qs) = rw (written-served (next l q) qs)
-
 pub calls-are-run : CallsAreRun
-unfolding outcome
+unfolding outcome steppedBy
 calls-are-run s t right qs eights most a v j room wide =
     let long : length (inOne qs) ≡ 8 * length qs = inOne-length qs (eight-long qs eights) in
     sym (completed-run (λ z. told z a v j) (completed (opened t j) (eightsIn (inOne qs)) a v) _ (refuses-none t (length (inOne qs)) (length a) (length v) right (omega arith) (omega arith) (omega arith) wide))
-    ∙ ap (λ (l : List (List ℕ)). completed (opened t j) l a v) (apart qs (eight-long qs eights)) ∙ rw (opened-right s t j right, written-served, left-after)
+    ∙ ap (λ (l : List (List ℕ)). completed (opened t j) l a v) (apart qs (eight-long qs eights)) ∙ rw (opened-right s t j right, written-served next reply)

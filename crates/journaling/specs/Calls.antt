@@ -2,14 +2,14 @@
 use Prim.Native.Nat.{ℕ, _*_, _≤_}
 use mathlib.Core.Path.{_≡_}
 use mathlib.Core.Bool.{false}
-use mathlib.Core.List.{List, [], _∷_, _++_}
+use mathlib.Core.List.{List, _++_}
 use lib.IntN.{pos}
 use lib.ListN.{length, drop}
 use Rattle.runs.specs.Runs.{after}
 use Rattle.words.specs.Bytes.{Bytes}
 use Rattle.wire.specs.Table.{wrong}
 use Rattle.board.specs.Reached.{Eights}
-use Rattle.lent.specs.Pieces.{inOne, fourEach}
+use Rattle.lent.specs.Pieces.{inOne, written, fourEach}
 use Rattle.journal.specs.Journal.{journalAfter, Ledger}
 use Rattle.journal.specs.Reached.{Reached}
 use Rattle.journaling.specs.Run.{told, outcome, openedBy, journalOpened, steppedBy}
@@ -19,10 +19,9 @@ use Rattle.journal.specs.declared.Journaled.{Journaled}
 abbrev pub left : Ledger → List ℕ → Ledger
 left l q = record { kept = steppedBy (l .kept) (length (l .journal)) q .board; journal = journalAfter (l .kept) (l .journal) q }
 
--- the answers that such calls write, one after another
-abbrev pub written : Ledger → List (List ℕ) → List ℕ
-written l [] = []
-written l (q ∷ qs) = steppedBy (l .kept) (length (l .journal)) q .bytes ++ written (left l q) qs
+-- and the answer that it writes
+abbrev pub answer : Ledger → List ℕ → List ℕ
+answer l q = steppedBy (l .kept) (length (l .journal)) q .bytes
 
 -- a right table opens a board that hub_step_journal may be given, whatever stood there; a wrong one takes none away; and hub_step_journal
 -- leaves such a board, over a journal of any length
@@ -43,4 +42,4 @@ CallsAreRun =
     → let o : Ledger = record { kept = openedBy s t .board; journal = journalOpened t j } in
     let last = after left o qs in
     outcome t (inOne qs) a v j
-    ≡ told (pos (length qs)) (written o qs ++ drop (12 * length qs) a) (fourEach (last .kept .board .values) ++ drop 256 v) (last .journal)
+    ≡ told (pos (length qs)) (written left answer o qs ++ drop (12 * length qs) a) (fourEach (last .kept .board .values) ++ drop 256 v) (last .journal)

@@ -11,7 +11,7 @@ use Rattle.runs.proofs.Grown.{after-more}
 use Rattle.words.specs.Bytes.{Bytes, byte}
 use Rattle.wire.specs.Answers.{encode}
 use Rattle.wire.specs.declared.Answer.{Answer}
-use Rattle.lent.specs.Pieces.{eightsOf, eightsIn, twelveEach, served}
+use Rattle.lent.specs.Pieces.{eightsOf, eightsIn, twelveEach, served, written}
 
 pub encode-length : (d : ℕ) (a : Answer) → length (encode d a) ≡ 12
 unfolding encode
@@ -65,6 +65,12 @@ module _ {S : Type 0} (next : S → List ℕ → S) (reply : S → List ℕ → 
 
     pub answers-length : length (served next reply b (eightsOf s k)) ≡ 12 * k
     answers-length = served-length b (eightsOf s k) ∙ ap (λ (n : ℕ). 12 * n) (eightsOf-length s k)
+
+  -- one call for each request writes the same
+  pub written-served : (b : S) (qs : List (List ℕ)) → written next (λ s q. encode (byte q 1) (reply s q)) b qs ≡ served next reply b qs
+  unfolding twelveEach
+  written-served b [] = refl
+  written-served b (q ∷ qs) = rw (written-served (next b q) qs)
 
   -- ---- a run of one request
 

@@ -31,6 +31,11 @@ twelveEach (q ∷ qs) (a ∷ l) = encode (byte q 1) a ++ twelveEach qs l
 abbrev pub served : {S : Type 0} → (S → List ℕ → S) → (S → List ℕ → Answer) → S → List (List ℕ) → List ℕ
 served next reply s qs = twelveEach qs (answers next reply s qs)
 
+-- one call for each request: what the calls write, one after another, where a call leaves the board `left` and writes `bytes`
+abbrev pub written : {S : Type 0} → (S → List ℕ → S) → (S → List ℕ → List ℕ) → S → List (List ℕ) → List ℕ
+written left bytes s [] = []
+written left bytes s (q ∷ qs) = bytes s q ++ written left bytes (left s q) qs
+
 -- the values, 4 bytes each
 unfoldable pub fourEach : List ℕ → List ℕ
 fourEach [] = []

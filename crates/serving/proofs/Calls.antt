@@ -1,12 +1,11 @@
 -- Calls of hub_step say what a run says: the same rules one request at a time, and requests in one piece come apart again.
 use Prim.Native.Nat.{ℕ, _*_}
-use mathlib.Core.Path.{_≡_, refl, ap, sym, _∙_, subst}
+use mathlib.Core.Path.{_≡_, ap, sym, _∙_, subst}
 use mathlib.Core.Bool.{false}
-use mathlib.Core.List.{List, [], _∷_}
+use mathlib.Core.List.{List}
 use native.Mathlib.Omega.{arith}
 use lib.ListN.{length}
 use Rattle.items.proofs.Tests.{by-test}
-use Rattle.runs.specs.Runs.{after}
 use Rattle.words.specs.Bytes.{Bytes}
 use Rattle.wire.specs.Table.{wrong}
 use Rattle.wire.proofs.Rows.{right-long}
@@ -14,10 +13,11 @@ use Rattle.board.specs.Rules.{next, reply}
 use Rattle.board.specs.Opening.{opening}
 use Rattle.board.specs.declared.Board.{Board}
 use Rattle.board.proofs.Reached.{reached-opening, reached-step}
-use Rattle.lent.specs.Pieces.{eightsIn, inOne, twelveEach, served}
+use Rattle.lent.specs.Pieces.{eightsIn, inOne}
 use Rattle.serving.specs.Run.{told, completed, outcome, openedBy, steppedBy}
-use Rattle.serving.specs.Calls.{left, written, OpenReaches, OpenKeeps, StepKeeps, CallsAreRun}
+use Rattle.serving.specs.Calls.{OpenReaches, OpenKeeps, StepKeeps, CallsAreRun}
 use Rattle.lent.proofs.Refused.{refuses-none, completed-run}
+use Rattle.lent.proofs.Served.{written-served}
 use Rattle.lent.proofs.InOne.{eight-long, inOne-length, apart}
 
 -- ---- one call
@@ -41,19 +41,9 @@ step-keeps b q bytes r = reached-step r q bytes
 
 -- ---- all calls
 
-left-after : (b : Board) (qs : List (List ℕ)) → left b qs ≡ after next b qs
-unfolding steppedBy
-left-after b [] = refl
-left-after b (q ∷ qs) = left-after (next b q) qs
-
-written-served : (b : Board) (qs : List (List ℕ)) → written b qs ≡ served next reply b qs
-unfolding steppedBy twelveEach
-written-served b [] = refl
-written-served b (q ∷ qs) = rw (written-served (next b q) qs)
-
 pub calls-are-run : CallsAreRun
-unfolding outcome
+unfolding outcome steppedBy
 calls-are-run b t right qs eights most a v room wide =
     let long : length (inOne qs) ≡ 8 * length qs = inOne-length qs (eight-long qs eights) in
     sym (completed-run (λ z. told z a v) (completed (opening t) (eightsIn (inOne qs)) a v) _ (refuses-none t (length (inOne qs)) (length a) (length v) right (omega arith) (omega arith) (omega arith) wide))
-    ∙ ap (λ (l : List (List ℕ)). completed (opening t) l a v) (apart qs (eight-long qs eights)) ∙ rw (opened-right b t right, written-served, left-after)
+    ∙ ap (λ (l : List (List ℕ)). completed (opening t) l a v) (apart qs (eight-long qs eights)) ∙ rw (opened-right b t right, written-served next reply)

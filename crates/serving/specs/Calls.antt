@@ -2,24 +2,23 @@
 use Prim.Native.Nat.{ℕ, _*_, _≤_}
 use mathlib.Core.Path.{_≡_}
 use mathlib.Core.Bool.{false}
-use mathlib.Core.List.{List, [], _∷_, _++_}
+use mathlib.Core.List.{List, _++_}
 use lib.IntN.{pos}
 use lib.ListN.{length, drop}
+use Rattle.runs.specs.Runs.{after}
 use Rattle.words.specs.Bytes.{Bytes}
 use Rattle.wire.specs.Table.{wrong}
 use Rattle.board.specs.Reached.{Eights, Reached}
 use Rattle.board.specs.declared.Board.{Board}
-use Rattle.lent.specs.Pieces.{fourEach, inOne}
+use Rattle.lent.specs.Pieces.{inOne, written, fourEach}
 use Rattle.serving.specs.Run.{told, outcome, openedBy, steppedBy}
 
--- the board that calls of hub_step leave, and the answers that they write, one after another
-abbrev pub left : Board → List (List ℕ) → Board
-left b [] = b
-left b (q ∷ qs) = left (steppedBy b q .board) qs
+-- the board that a call of hub_step leaves, and the answer that it writes
+abbrev pub left : Board → List ℕ → Board
+left b q = steppedBy b q .board
 
-abbrev pub written : Board → List (List ℕ) → List ℕ
-written b [] = []
-written b (q ∷ qs) = steppedBy b q .bytes ++ written (steppedBy b q .board) qs
+abbrev pub answer : Board → List ℕ → List ℕ
+answer b q = steppedBy b q .bytes
 
 -- a right table opens a board that hub_step may be given, whatever stood there; a wrong one takes none away; and hub_step leaves such a board
 abbrev pub OpenReaches : Type 0
@@ -38,4 +37,4 @@ CallsAreRun =
     → (a v : List ℕ) → 12 * length qs ≤ length a → 256 ≤ length v
     → let o = openedBy b t .board in
     outcome t (inOne qs) a v
-    ≡ told (pos (length qs)) (written o qs ++ drop (12 * length qs) a) (fourEach (left o qs .values) ++ drop 256 v)
+    ≡ told (pos (length qs)) (written left answer o qs ++ drop (12 * length qs) a) (fourEach (after left o qs .values) ++ drop 256 v)

@@ -14,7 +14,6 @@ use Rattle.lent.proofs.Buffers.{turn}
 use Rattle.lent.proofs.Served.{eightAt, encode-length, next-board, next-answer, answers-length, part-bytes}
 use Rattle.journal.specs.Journal.{Ledger, step, next, reply, journalAfter}
 use Rattle.journal.specs.Reached.{Reached}
-use Rattle.journal.specs.declared.Stepped.{Stepped}
 use Rattle.journal.proofs.Kept.{reached-call}
 use Rattle.journaling.proofs.run.serve.Statement.{statement}
 use Rattle.journaling.proofs.run.serve.Tie as tie
