@@ -7,7 +7,7 @@ use native.Mathlib.Omega.{arith}
 use Rattle.runs.specs.Runs.{after}
 use Rattle.runs.proofs.Grown.{after-more, after-keeps}
 use Rattle.words.specs.Bytes.{Bytes}
-use Rattle.wire.specs.Table.{wrong}
+use Rattle.table.specs.Table.{wrong}
 use Rattle.board.specs.Rules.{step, next}
 use Rattle.board.specs.Opening.{opening}
 use Rattle.board.specs.Reached.{Eights, Reached, Counted}

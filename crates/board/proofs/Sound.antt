@@ -11,7 +11,7 @@ use Rattle.items.specs.Items.{has}
 use Rattle.items.proofs.Tests.{by-cond, clash}
 use Rattle.counters.specs.declared.Age.{Age}
 use Rattle.counters.specs.declared.Number.{Number}
-use Rattle.wire.specs.Table.{valueAt, floorAt, ceilingAt}
+use Rattle.table.specs.Table.{valueAt, floorAt, ceilingAt}
 use Rattle.wire.specs.Requests.{decode, deskOf, valueOf}
 use Rattle.wire.specs.declared.Decoded.{Decoded}
 use Rattle.wire.specs.declared.Answer.{Answer}

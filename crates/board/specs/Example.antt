@@ -8,7 +8,7 @@ use Rattle.items.specs.Items.{none, sets}
 use Rattle.counters.specs.Counters.{noAge, noNumber}
 use Rattle.words.specs.Bytes.{fourBytes}
 use Rattle.wire.specs.Requests.{requestOf, unusedZero, decode}
-use Rattle.wire.specs.Table.{rowRight, wrong}
+use Rattle.table.specs.Table.{rowRight, wrong}
 use Rattle.desks.specs.Desks.{idle}
 use Rattle.board.specs.Rules.{rules}
 use Rattle.board.specs.Opening.{gathered, opening}

@@ -1,4 +1,4 @@
--- Outline, "A whole run": the opening table's bytes to a fresh board. A table that is wrong is refused before; see Table of the crate wire.
+-- Outline, "A whole run": the opening table's bytes to a fresh board. A table that is wrong is refused before; see the crate table.
 use Prim.Native.Nat.{ℕ, zero, suc}
 use mathlib.Core.Bool.{Bool, true, cond}
 use mathlib.Core.List.{List}
@@ -7,7 +7,7 @@ use lib.Dec.{eqb}
 use Rattle.items.specs.Items.{none, with}
 use Rattle.items.specs.declared.Items.{Items}
 use Rattle.counters.specs.Counters.{noAge, noNumber}
-use Rattle.wire.specs.Table.{floorAt, ceilingAt, valueAt, kindAt}
+use Rattle.table.specs.Table.{floorAt, ceilingAt, valueAt, kindAt}
 use Rattle.desks.specs.Desks.{idle}
 use Rattle.board.specs.Rules.{filled}
 use Rattle.board.specs.declared.Board.{Board}

@@ -9,7 +9,7 @@ use Rattle.items.specs.Items.{has}
 use Rattle.runs.specs.Runs.{after, Exchanged}
 use Rattle.words.specs.Bytes.{byte}
 use Rattle.wire.specs.Requests.{decode}
-use Rattle.wire.specs.Table.{wrong}
+use Rattle.table.specs.Table.{wrong}
 use Rattle.wire.specs.declared.Request.{Request}
 use Rattle.wire.specs.declared.Request.the-variants.{Begin, Read, Write, End, Abandon}
 use Rattle.wire.specs.declared.Decoded.{Decoded}

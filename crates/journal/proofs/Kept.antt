@@ -8,7 +8,7 @@ use lib.ListN.{length}
 use Rattle.runs.specs.Runs.{after}
 use Rattle.runs.proofs.Grown.{after-more}
 use Rattle.words.specs.Bytes.{Bytes}
-use Rattle.wire.specs.Table.{wrong}
+use Rattle.table.specs.Table.{wrong}
 use Rattle.wire.specs.Requests.{decode}
 use Rattle.wire.specs.Answers.{itemOf}
 use Rattle.wire.specs.declared.Decoded.{Decoded}

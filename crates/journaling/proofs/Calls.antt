@@ -7,8 +7,8 @@ use native.Mathlib.Omega.{arith}
 use lib.ListN.{length}
 use Rattle.items.proofs.Tests.{by-test}
 use Rattle.words.specs.Bytes.{Bytes}
-use Rattle.wire.specs.Table.{wrong}
-use Rattle.wire.proofs.Rows.{right-long}
+use Rattle.table.specs.Table.{wrong}
+use Rattle.table.proofs.Rows.{right-long}
 use Rattle.lent.specs.Pieces.{eightsIn, inOne}
 use Rattle.lent.proofs.Refused.{refuses-none, completed-run}
 use Rattle.lent.proofs.Served.{written-served}

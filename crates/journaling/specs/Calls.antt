@@ -7,7 +7,7 @@ use lib.IntN.{pos}
 use lib.ListN.{length, drop}
 use Rattle.runs.specs.Runs.{after}
 use Rattle.words.specs.Bytes.{Bytes}
-use Rattle.wire.specs.Table.{wrong}
+use Rattle.table.specs.Table.{wrong}
 use Rattle.board.specs.Reached.{Eights}
 use Rattle.lent.specs.Pieces.{inOne, written, fourEach}
 use Rattle.journal.specs.Journal.{journalAfter, Ledger}

@@ -7,7 +7,7 @@ use lib.ListN.{length, drop}
 use Rattle.runs.specs.Runs.{after}
 use Rattle.words.specs.Bytes.{byte}
 use Rattle.wire.specs.Answers.{encode}
-use Rattle.wire.specs.Table.{wrong}
+use Rattle.table.specs.Table.{wrong}
 use Rattle.lent.specs.Pieces.{eightsIn, served, fourEach}
 use Rattle.lent.specs.Refusals.{refusal, unless}
 use Rattle.journal.specs.Journal.{step, fresh, cleared, Ledger, opened, next, reply}

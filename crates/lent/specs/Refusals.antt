@@ -5,7 +5,7 @@ use mathlib.Core.List.{List, [], _∷_}
 use lib.Dec.{eqb, ltb}
 use lib.IntN.{ℤ, pos, negℤ}
 use Rattle.wire.specs.Checks.{Check, _fails_, firstFailing}
-use Rattle.wire.specs.Table.{wrong}
+use Rattle.table.specs.Table.{wrong}
 
 -- refusals 10, 11, 14, 12, 13, in that order, by the table and the lengths of the requests and of the two buffers
 abbrev pub runChecks : List ℕ → ℕ → ℕ → ℕ → List Check

@@ -10,7 +10,7 @@ ghost use Prim.Native.Nat.{_+_, _*_, _≤_};
 ghost use lib.ListN.{length};
 ghost use lib.Dec.{eqb};
 ghost use Rattle.words.specs.Bytes.{wordAt};
-ghost use Rattle.wire.specs.Table.{kindAt};
+ghost use Rattle.table.specs.Table.{kindAt};
 ghost use Rattle.board.specs.Opening.{column, gathered, opening};
 
 // The numbers that stand at byte `at` of each row.

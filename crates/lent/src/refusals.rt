@@ -1,5 +1,5 @@
 // A whole run's refusals, in their order.
-use wire::table::wrong;
+use table::wrong;
 ghost use mathlib.Core.Path.{_≡_};
 ghost use lib.IntN.{pos, negℤ};
 ghost use Rattle.lent.specs.Refusals.{refusal};

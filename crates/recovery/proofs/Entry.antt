@@ -10,7 +10,7 @@ use Rattle.items.specs.declared.Items.{Items}
 use Rattle.items.proofs.Tests.{by-test}
 use Rattle.runs.specs.Runs.{after}
 use Rattle.words.proofs.Fours.{four-tell}
-use Rattle.wire.specs.Table.{floorAt, ceilingAt}
+use Rattle.table.specs.Table.{floorAt, ceilingAt}
 use Rattle.board.specs.Rules.{filled, installed}
 use Rattle.records.specs.Records.{recordOf, countBelow, itemRecord, itemRecords, entry}
 use Rattle.records.proofs.Sizes.{count-below}

@@ -13,7 +13,7 @@ use Rattle.counters.specs.declared.Number.{Number}
 use Rattle.runs.specs.Runs.{after}
 use Rattle.words.specs.Bytes.{Bytes, byte}
 use Rattle.wire.specs.Requests.{decode, deskOf, valueOf}
-use Rattle.wire.specs.Table.{floorAt, ceilingAt}
+use Rattle.table.specs.Table.{floorAt, ceilingAt}
 use Rattle.wire.specs.declared.Decoded.{Decoded}
 use Rattle.wire.specs.declared.Answer.{Answer}
 use Rattle.wire.specs.declared.Answer.the-variants.{Refused, Opened, Value, Stored, Wait, Committed, Abandoned, Aborted}

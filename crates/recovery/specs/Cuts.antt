@@ -8,7 +8,7 @@ use lib.IntN.{pos}
 use lib.ListN.{take}
 use Rattle.runs.specs.Runs.{after}
 use Rattle.words.specs.Bytes.{Bytes}
-use Rattle.wire.specs.Table.{wrong}
+use Rattle.table.specs.Table.{wrong}
 use Rattle.board.specs.Opening.{opening}
 use Rattle.board.specs.declared.Board.{Board}
 use Rattle.journal.specs.Journal.{Ledger, opened, next}

@@ -9,7 +9,7 @@ use lib.Dec.{ltb}
 use lib.ListN.{length, take, drop}
 use Rattle.runs.specs.Runs.{after, Exchanged}
 use Rattle.wire.specs.Requests.{decode}
-use Rattle.wire.specs.Table.{wrong}
+use Rattle.table.specs.Table.{wrong}
 use Rattle.wire.specs.declared.Answer.the-variants.{Refused}
 use Rattle.board.specs.Rules as Rules
 use Rattle.board.specs.declared.Board.{Board}

@@ -7,7 +7,7 @@ use borrow.Author.Tests.{le-leb, lt-leb, eq-eqb, ne-eqb, leb-true}
 use lib.Dec.{eqb, leb}
 use Rattle.items.proofs.Tests.{and-left, and-right}
 use Rattle.words.specs.Bytes.{byte}
-use Rattle.wire.specs.Table.{floorAt, ceilingAt}
+use Rattle.table.specs.Table.{floorAt, ceilingAt}
 use Rattle.restart.specs.Restart.{numberIn, valueIn, fitsItem, fitsClosing}
 use Rattle.restart.specs.declared.reading.Reading.{Reading}
 

@@ -7,8 +7,8 @@ use native.Mathlib.Omega.{arith}
 use lib.Dec.{eqb}
 use lib.ListN.{getD}
 use Rattle.words.specs.Bytes.{Bytes}
-use Rattle.wire.specs.Table.{floorAt, ceilingAt, valueAt, kindAt, wrong}
-use Rattle.wire.proofs.Rows.{Row, holds-row, wrong-none, right-row}
+use Rattle.table.specs.Table.{floorAt, ceilingAt, valueAt, kindAt, wrong}
+use Rattle.table.proofs.Rows.{Row, holds-row, wrong-none, right-row}
 use Rattle.board.specs.Opening.{opening}
 use Rattle.board.proofs.Filled.{column-length, column-at, column-is, gathered-same}
 use Rattle.restart.specs.Restart.{restored, withValues}

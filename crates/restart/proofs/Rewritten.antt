@@ -10,7 +10,7 @@ use lib.ListN.{getD, length}
 use Rattle.items.proofs.Tests.{by-test, by-equal}
 use Rattle.words.specs.Bytes.{Bytes, byte, word, wordAt, fourBytes}
 use Rattle.words.proofs.Fours.{four-tell, four-small}
-use Rattle.wire.specs.Table.{floorAt, ceilingAt, valueAt}
+use Rattle.table.specs.Table.{floorAt, ceilingAt, valueAt}
 use Rattle.records.specs.Records.{over}
 use Rattle.records.proofs.Appended.{over-length, over-before, over-inside, over-after, over-small}
 use Rattle.restart.specs.Restart.{rewritten, withValues}

@@ -9,8 +9,8 @@ use lib.Seq.{getD-set-same, getD-set-other}
 use Rattle.items.proofs.Tests.{by-equal}
 use Rattle.runs.proofs.Grown.{after-keeps}
 use Rattle.words.specs.Bytes.{byte}
-use Rattle.wire.specs.Table.{floorAt, ceilingAt, valueAt, wrong}
-use Rattle.wire.proofs.Rows.{right-row}
+use Rattle.table.specs.Table.{floorAt, ceilingAt, valueAt, wrong}
+use Rattle.table.proofs.Rows.{right-row}
 use Rattle.board.specs.Opening.{opening}
 use Rattle.board.proofs.Filled.{column-length, column-at}
 use Rattle.lent.specs.Pieces.{eightsOf}

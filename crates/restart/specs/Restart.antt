@@ -7,7 +7,7 @@ use lib.IntN.{ℤ, pos, negℤ}
 use lib.ListN.{getD, set, length}
 use Rattle.runs.specs.Runs.{after}
 use Rattle.words.specs.Bytes.{byte, wordAt, fourBytes}
-use Rattle.wire.specs.Table.{floorAt, ceilingAt, wrong}
+use Rattle.table.specs.Table.{floorAt, ceilingAt, wrong}
 use Rattle.board.specs.Opening.{opening}
 use Rattle.lent.specs.Pieces.{eightsOf}
 use Rattle.records.specs.Records.{room, over}

@@ -3,7 +3,7 @@ mod reading;
 
 use crate::reading::restored;
 use lent::pieces::put;
-use wire::table::wrong;
+use table::wrong;
 use words::four_bytes;
 ghost use mathlib.Core.Path.{_≡_};
 ghost use lib.ListN.{length};

@@ -8,7 +8,7 @@ ghost use mathlib.Core.Path.{_≡_};
 ghost use mathlib.Core.Bool.{false};
 ghost use Prim.Native.Nat.{_<_};
 ghost use lib.ListN.{length};
-ghost use Rattle.wire.specs.Table.{wrong};
+ghost use Rattle.table.specs.Table.{wrong};
 ghost use Rattle.restart.specs.Restart.{fitsItem, fitsClosing, read, restored};
 
 // The whole commits so far and the values after them; of the commit that is being read, how many items, the lowest that may come next,

@@ -7,8 +7,8 @@ use native.Mathlib.Omega.{arith}
 use lib.ListN.{length}
 use Rattle.items.proofs.Tests.{by-test}
 use Rattle.words.specs.Bytes.{Bytes}
-use Rattle.wire.specs.Table.{wrong}
-use Rattle.wire.proofs.Rows.{right-long}
+use Rattle.table.specs.Table.{wrong}
+use Rattle.table.proofs.Rows.{right-long}
 use Rattle.board.specs.Rules.{next, reply}
 use Rattle.board.specs.Opening.{opening}
 use Rattle.board.specs.declared.Board.{Board}

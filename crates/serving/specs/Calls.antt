@@ -7,7 +7,7 @@ use lib.IntN.{pos}
 use lib.ListN.{length, drop}
 use Rattle.runs.specs.Runs.{after}
 use Rattle.words.specs.Bytes.{Bytes}
-use Rattle.wire.specs.Table.{wrong}
+use Rattle.table.specs.Table.{wrong}
 use Rattle.board.specs.Reached.{Eights, Reached}
 use Rattle.board.specs.declared.Board.{Board}
 use Rattle.lent.specs.Pieces.{inOne, written, fourEach}

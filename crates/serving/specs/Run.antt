@@ -7,7 +7,7 @@ use lib.ListN.{length, drop}
 use Rattle.runs.specs.Runs.{after}
 use Rattle.words.specs.Bytes.{byte}
 use Rattle.wire.specs.Answers.{encode}
-use Rattle.wire.specs.Table.{wrong}
+use Rattle.table.specs.Table.{wrong}
 use Rattle.board.specs.Rules.{next, reply}
 use Rattle.board.specs.Opening.{opening}
 use Rattle.board.specs.declared.Board.{Board}

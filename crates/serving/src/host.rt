@@ -2,7 +2,7 @@
 use crate::run::serve;
 use board::Board;
 use lent::opening::opening;
-use wire::table::wrong;
+use table::wrong;
 ghost use mathlib.Core.Path.{_≡_};
 ghost use Rattle.board.specs.Reached.{Reached};
 ghost use Rattle.serving.specs.Run.{openedBy, steppedBy};

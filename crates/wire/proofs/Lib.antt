@@ -1,5 +1,4 @@
--- Checks: lists of checks. Forms: a request's bytes. Records: an answer's bytes. Rows: the opening table.
+-- Checks: lists of checks. Forms: a request's bytes. Records: an answer's bytes.
 pub mod Checks
 pub mod Forms
 pub mod Records
-pub mod Rows

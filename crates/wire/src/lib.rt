@@ -1,7 +1,6 @@
-// Requests, answers and the opening table, and their bytes.
+// Requests and answers, and their bytes.
 pub mod answers;
 pub mod requests;
-pub mod table;
 
 use counters::Age;
 use counters::Number;

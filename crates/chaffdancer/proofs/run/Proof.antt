@@ -11,7 +11,7 @@ use lib.Signed.{mag, ltZ}
 use mir.Syntax.{w64}
 use mir.Val.{toZ, ofZ}
 use mir.Facts.{toZ-ofZ}
-use Rattle.wire.proofs.Rows.{right-long}
+use Rattle.table.proofs.Rows.{right-long}
 use Rattle.serving.specs.Run.{told, outcome}
 use Rattle.serving.proofs.Outcome.{answered}
 use Rattle.lent.proofs.Refused.{Accepted}

@@ -1,6 +1,6 @@
 -- A right table is 1,024 bytes long; the callees say the rest.
 use borrow.Author.Needs.{needs}
-use Rattle.wire.proofs.Rows.{right-long}
+use Rattle.table.proofs.Rows.{right-long}
 use Rattle.journaling.proofs.host.fresh.Statement.{statement}
 use Rattle.journaling.proofs.host.fresh.Tie as tie
 

@@ -11,7 +11,7 @@ use mir.Val.{toZ}
 use mir.Facts.{toZ-pos}
 use Rattle.runs.specs.Runs.{after}
 use Rattle.words.specs.Bytes.{Bytes}
-use Rattle.wire.proofs.Rows.{right-long}
+use Rattle.table.proofs.Rows.{right-long}
 use Rattle.lent.specs.Pieces.{eightsIn, served, fourEach}
 use Rattle.lent.proofs.Served.{eightsOf-length}
 use Rattle.lent.proofs.Refused.{accepted}

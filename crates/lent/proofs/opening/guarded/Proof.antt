@@ -7,7 +7,7 @@ use native.Mathlib.Numerals.{add-one}
 use borrow.Author.Needs.{needs}
 use borrow.Author.Tests.{ne-eqb}
 use lib.Dec.{eqb}
-use Rattle.wire.specs.Table.{kindAt}
+use Rattle.table.specs.Table.{kindAt}
 use Rattle.board.specs.Opening.{gathered}
 use Rattle.lent.proofs.opening.guarded.Statement.{statement}
 use Rattle.lent.proofs.opening.guarded.Tie as tie

@@ -4,7 +4,7 @@ use mathlib.Core.Path.{_≡_, sym, ap, _∙_}
 use native.Mathlib.Omega.{arith}
 use lib.ListN.{length}
 use Rattle.runs.specs.Runs.{after}
-use Rattle.wire.proofs.Rows.{right-long}
+use Rattle.table.proofs.Rows.{right-long}
 use Rattle.board.specs.Opening.{opening}
 use Rattle.board.specs.declared.Board.{Board}
 use Rattle.lent.specs.Pieces.{eightsOf}

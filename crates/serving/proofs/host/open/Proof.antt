@@ -1,7 +1,7 @@
 -- By the test of the table.
 use mathlib.Core.Path.{sym, _∙_}
 use borrow.Author.Needs.{needs}
-use Rattle.wire.proofs.Rows.{right-long}
+use Rattle.table.proofs.Rows.{right-long}
 use Rattle.serving.specs.Run.{openedBy}
 use Rattle.serving.proofs.host.open.Statement.{statement}
 use Rattle.serving.proofs.host.open.Tie as tie

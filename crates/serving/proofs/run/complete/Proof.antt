@@ -11,7 +11,7 @@ use mir.Val.{toZ}
 use mir.Facts.{toZ-pos}
 use Rattle.runs.specs.Runs.{after}
 use Rattle.words.specs.Bytes.{Bytes}
-use Rattle.wire.proofs.Rows.{right-long}
+use Rattle.table.proofs.Rows.{right-long}
 use Rattle.board.specs.Rules.{next, reply}
 use Rattle.board.specs.Opening.{opening}
 use Rattle.board.specs.declared.Board.{Board}

@@ -7,10 +7,10 @@ use borrow.Author.Needs.{needs}
 use borrow.Author.Tests.{not-true, not-false}
 use lib.ListN.{length}
 use Rattle.items.proofs.First.{Passed, passed-none, passed-one}
-use Rattle.wire.specs.Table.{rowRight}
-use Rattle.wire.proofs.Rows.{wrong-length, wrong-row, wrong-none}
-use Rattle.wire.proofs.table.wrong.Statement.{statement}
-use Rattle.wire.proofs.table.wrong.Tie as tie
+use Rattle.table.specs.Table.{rowRight}
+use Rattle.table.proofs.Rows.{wrong-length, wrong-row, wrong-none}
+use Rattle.table.proofs.wrong.Statement.{statement}
+use Rattle.table.proofs.wrong.Tie as tie
 
 abbrev Inv-loop : tie.InvT-loop
 Inv-loop table i₀ i = (length table ≡ 1024) × Passed 64 (λ k. not (rowRight table k)) i

@@ -1,9 +1,9 @@
 -- Each way out is a law of Rows.
 use native.Mathlib.Omega.{arith}
 use borrow.Author.Needs.{needs}
-use Rattle.wire.proofs.Rows.{below-floor, above-ceiling, no-kind, spare-13, spare-14, spare-15}
-use Rattle.wire.proofs.table.row_right.Statement.{statement}
-use Rattle.wire.proofs.table.row_right.Tie as tie
+use Rattle.table.proofs.Rows.{below-floor, above-ceiling, no-kind, spare-13, spare-14, spare-15}
+use Rattle.table.proofs.row_right.Statement.{statement}
+use Rattle.table.proofs.row_right.Tie as tie
 
 mul-at : tie.Need-mul-at
 mul-at c = search needs

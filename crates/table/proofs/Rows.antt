@@ -10,7 +10,7 @@ use Rattle.items.specs.First.{every}
 use Rattle.items.proofs.Tests.{by-test, by-equal, clash, and-right}
 use Rattle.items.proofs.First.{every-at, every-is, every-not}
 use Rattle.words.specs.Bytes.{byte}
-use Rattle.wire.specs.Table.{floorAt, ceilingAt, valueAt, kindAt, rowRight, wrong}
+use Rattle.table.specs.Table.{floorAt, ceilingAt, valueAt, kindAt, rowRight, wrong}
 
 module _ (t : List ℕ) (i : ℕ) where
   pub below-floor : valueAt t i < floorAt t i → false ≡ rowRight t i

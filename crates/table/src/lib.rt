@@ -3,7 +3,7 @@ use words::number_at;
 ghost use mathlib.Core.Path.{_≡_};
 ghost use Prim.Native.Nat.{_+_, _*_, _≤_};
 ghost use lib.ListN.{length};
-ghost use Rattle.wire.specs.Table.{rowRight, wrong};
+ghost use Rattle.table.specs.Table.{rowRight, wrong};
 
 // Floor ≤ value ≤ ceiling, the kind is 0 or 1, and the last three bytes are zero.
 fn row_right(table: &[u8], i: usize) -> bool
