@@ -2,16 +2,18 @@
 use Prim.Native.Nat.{ℕ, _*_, _/_, _≤_, _<_}
 use mathlib.Core.Path.{_≡_, refl, ap, sym, _∙_, subst}
 use mathlib.Core.Logic.{_≢_}
+use mathlib.Core.Bool.{cond}
 use mathlib.Core.List.{List, [], _∷_}
 use native.Mathlib.Omega.{arith}
-use borrow.Author.Tests.{leb-true, leb-false}
+use borrow.Author.Tests.{leb-true, leb-false, lt-ltb}
 use lib.Dec.{leb, ltb}
-use lib.IntN.{pos}
+use lib.IntN.{pos, negℤ}
 use lib.ListN.{length, take}
 use lib.Seq.{take-take, take-all, length-take-le, getD-take}
 use Rattle.items.proofs.Tests.{by-test, by-cond}
 use Rattle.runs.specs.Runs.{after}
 use Rattle.words.specs.Bytes.{Bytes, byte}
+use Rattle.table.specs.Table.{wrong}
 use Rattle.board.specs.Opening.{opening}
 use Rattle.board.specs.declared.Board.{Board}
 use Rattle.lent.specs.Pieces.{eightsOf}
@@ -22,7 +24,7 @@ use Rattle.restart.specs.Restart.{unread, read, restored, withValues, told, res
 use Rattle.restart.specs.Restarts.{freshWith}
 use Rattle.restart.proofs.Restarts.{restarted-opens}
 use Rattle.restart.specs.declared.reading.Reading.{Reading}
-use Rattle.recovery.specs.Cuts.{within, boardWithin, Cuts, Resumes}
+use Rattle.recovery.specs.Cuts.{within, boardWithin, Cuts, Resumes, ReadsNoFurther}
 use Rattle.recovery.proofs.Growth.{kept-next}
 use Rattle.recovery.proofs.Pieces.{same-front}
 use Rattle.recovery.proofs.Quiet.{quiet}
@@ -149,3 +151,19 @@ pub resumes : Resumes
 resumes t bytes right journal requests cut =
     restarted-opens t (take cut (after next (opened t journal) requests .journal)) bytes right
     ∙ ap (freshWith t) (read-cut t bytes journal requests cut .1)
+
+-- ---- no further than the room
+
+reads-within : (t j : List ℕ) → restored t (take 65536 j) ≡ restored t j
+unfolding restored
+reads-within t j =
+    by-test (leb (length j) 65536) (λ e. ap (restored t) (take-all 65536 j (leb-true (length j) 65536 e)))
+    (λ e.
+    let past : 65536 < length j = leb-false (length j) 65536 e in
+    let long : length (take 65536 j) ≡ 65536 = length-take-le 65536 j (omega arith) in
+    let same : eightsOf (take 65536 j) 8192 ≡ eightsOf j 8192 = same-front (take 65536 j) j 65536 8192 (take-take 65536 65536 j (omega arith)) (omega arith) (omega arith) (omega arith) in
+    rw (long, lt-ltb 65536 (length j) past) (ap (after (read t) (unread (opening t .values))) same))
+
+pub reads-no-further : ReadsNoFurther
+unfolding restarted
+reads-no-further t j = ap (λ (at : Reading). cond (wrong t) (told (negℤ (pos 10)) t) (told (pos (at .commits)) (withValues t (at .whole)))) (reads-within t j)

@@ -39,3 +39,7 @@ Resumes =
     (table : List ℕ) → Bytes 1024 table → wrong table ≡ false → (journal : List ℕ) (requests : List (List ℕ)) (cut : ℕ)
     → let start = opened table journal in
     opening (tableAfter table (take cut (after next start requests .journal))) ≡ freshWith table (boardWithin cut start requests .values)
+
+-- bytes past the first 65,536 are not read
+abbrev pub ReadsNoFurther : Type 0
+ReadsNoFurther = (table journal : List ℕ) → restarted table (take 65536 journal) ≡ restarted table journal
