@@ -1,5 +1,5 @@
 -- The binary digits of a number, lowest first, and what the bit operations do to them.
-use mathlib.Core.Path.{_≡_, refl, ap, ap₂, _∙_, sym}
+use mathlib.Core.Path.{_≡_, refl, ap, ap₂, _∙_, sym, fun-ext}
 use mathlib.Core.Bool.{Bool, true, false, _&&_, _||_, not, true≢false, false≢true}
 use Prim.Native.Nat.{ℕ, zero, suc, _+_, _*_, _/_, _%_, _^_, _<_, min, max}
 use native.Mathlib.Nat.{zero-lt-suc, div-one, div-div-eq-div-mul, pow-succ', mod-lt, div-add-mod', zero-div, one-mul}
@@ -7,8 +7,11 @@ use native.Mathlib.Numerals.{add-one}
 use native.Mathlib.Omega.{arith}
 use lib.Arith.{digits-div, digits-mod, lt-one}
 use lib.Bits.{bitAnd, bitOr, bitXor, differ, and-step, or-step, xor-step, shifted-half, shifted-even}
+use lib.Count.{trailingZeros, under}
 use lib.Dec.{eqb, lit<, eqb·zero-suc, eqb·suc-zero, eqb·suc-suc}
 use lib.Pow.{shr-lt, shl-exact}
+use Rattle.items.specs.First.{first}
+use Rattle.items.proofs.First.{first-here, first-later}
 
 abbrev pub digit : ℕ → ℕ → ℕ
 digit n i = n / 2 ^ i % 2
@@ -122,3 +125,19 @@ same-digits (suc k) a b ha hb same =
     let high : a / 2 ≡ b / 2 = same-digits k (a / 2) (b / 2) (half-lt k ha) (half-lt k hb)
     (λ i h. rw (← digit-suc a i, ← digit-suc b i) (same (suc i) (omega arith))) in
     sym (div-add-mod' a 2) ∙ ap₂ (λ (x y : ℕ). x * 2 + y) high low ∙ div-add-mod' b 2
+
+-- ---- the count of trailing zeros finds the first digit that is set
+
+pub trailing-first : (k n : ℕ) → trailingZeros k n ≡ first k (isSet n)
+unfolding trailingZeros first
+trailing-first zero n = refl
+trailing-first (suc k) n = go (n % 2) refl (low-lt n) (trailing-first k (n / 2))
+  where
+    test : (d : ℕ) → n % 2 ≡ d → isSet n 0 ≡ eqb d 1
+    test d e = ap (λ (x : ℕ). eqb x 1) (digit-zero n ∙ e)
+
+    go : (d : ℕ) → n % 2 ≡ d → d < 2 → trailingZeros k (n / 2) ≡ first k (isSet (n / 2)) → under d (trailingZeros k (n / 2)) ≡ first (suc k) (isSet n)
+    go zero e h ih =
+        ap suc (ih ∙ ap (first k) (fun-ext (λ i. ap (λ (x : ℕ). eqb x 1) (sym (digit-suc n i))))) ∙ sym (first-later k (isSet n) (test 0 e))
+    go (suc zero) e h ih = sym (first-here k (isSet n) (test 1 e))
+    go (suc (suc d)) e h ih = absurd (omega arith)

@@ -6,13 +6,14 @@ use mathlib.Core.Bool.{Bool, true, false, _&&_, _||_, not, or-true, or-false, an
 use Prim.Native.Nat.{ℕ, _^_, _≤_, _<_}
 use borrow.Author.Tests.{eq-eqb, ne-eqb, not-true, not-false}
 use lib.Bits.{and-lt, or-lt, xor-lt}
+use lib.Count.{trailingZeros}
 use lib.Dec.{eqb, lit<}
 use lib.Pow.{pow-lt}
 use Rattle.items.specs.Items.{has, none, with, without, common, joined, empty, lowest}
 use Rattle.items.specs.declared.Items.{Items}
 use Rattle.items.proofs.Tests.{by-test, and-left, and-right, or-left}
 use Rattle.items.proofs.First.{first-le, first-before, first-passes, first-is, first-none, any-first, any-none, none-any, any-is}
-use Rattle.items.proofs.Digits.{set-zero, set-and, set-or, set-less, set-pow, same-digits}
+use Rattle.items.proofs.Digits.{set-zero, set-and, set-or, set-less, set-pow, same-digits, trailing-first}
 
 -- ---- what is in a set
 
@@ -106,6 +107,11 @@ lowest-is s = first-is 64 (has s)
 pub lowest-none : lowest none ≡ 64
 unfolding lowest
 lowest-none = sym (first-none 64 (has none) (λ k h. has-none k))
+
+-- the machine's count finds it, of any set
+pub count-lowest : (s : Items) → trailingZeros 64 (s .0) ≡ lowest s
+unfolding lowest has
+count-lowest s = trailing-first 64 (s .0)
 
 -- ---- the empty set
 

@@ -58,17 +58,10 @@ impl Items {
         self.0 == 0
     }
 
-    // The lowest item in the set, 64 where there is none: places are tried one by one.
+    // The lowest item in the set, 64 where there is none: as many bits as are clear below it.
     pub fn lowest(self) -> usize
         ensures { λ r. ⌜ r ≡ lowest self ⌝ }
     {
-        let mut i = 0;
-        while i < 64 {
-            if self.has(i) {
-                return i;
-            }
-            i += 1;
-        }
-        i
+        u64::trailing_zeros(self.0) as usize
     }
 }
