@@ -9,10 +9,10 @@ use Rattle.items.proofs.Tests.{by-test}
 use Rattle.words.specs.Bytes.{Bytes}
 use Rattle.table.specs.Table.{wrong}
 use Rattle.table.proofs.Rows.{right-long}
-use Rattle.lent.specs.Pieces.{eightsIn, inOne}
+use Rattle.pieces.specs.Pieces.{eightsIn, inOne}
 use Rattle.lent.proofs.Refused.{refuses-none, completed-run}
-use Rattle.lent.proofs.Served.{written-served}
-use Rattle.lent.proofs.InOne.{eight-long, inOne-length, apart}
+use Rattle.lent.proofs.Served.{written-served, eight-long}
+use Rattle.pieces.proofs.Eights.{inOne-length, apart}
 use Rattle.journal.specs.Journal.{opened, next, reply}
 use Rattle.journaling.specs.Run.{told, completed, outcome, openedBy, journalOpened, steppedBy}
 use Rattle.journaling.specs.Calls.{OpenReaches, OpenKeeps, StepKeeps, CallsAreRun}

@@ -9,7 +9,8 @@ use Rattle.runs.specs.Runs.{after}
 use Rattle.words.specs.Bytes.{Bytes}
 use Rattle.table.specs.Table.{wrong}
 use Rattle.board.specs.Reached.{Eights}
-use Rattle.lent.specs.Pieces.{inOne, written, fourEach}
+use Rattle.pieces.specs.Pieces.{inOne, fourEach}
+use Rattle.lent.specs.Served.{written}
 use Rattle.journal.specs.Journal.{journalAfter, Ledger}
 use Rattle.journal.specs.Reached.{Reached}
 use Rattle.journaling.specs.Run.{told, outcome, openedBy, journalOpened, steppedBy}

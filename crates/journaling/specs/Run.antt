@@ -8,7 +8,8 @@ use Rattle.runs.specs.Runs.{after}
 use Rattle.words.specs.Bytes.{byte}
 use Rattle.wire.specs.Answers.{encode}
 use Rattle.table.specs.Table.{wrong}
-use Rattle.lent.specs.Pieces.{eightsIn, served, fourEach}
+use Rattle.pieces.specs.Pieces.{eightsIn, fourEach}
+use Rattle.lent.specs.Served.{served}
 use Rattle.lent.specs.Refusals.{refusal, unless}
 use Rattle.journal.specs.Journal.{step, fresh, cleared, Ledger, opened, next, reply}
 use Rattle.journal.specs.declared.Journaled.{Journaled}

@@ -1,47 +1,28 @@
--- One more request at the end of a run on any board: the board, the answers' bytes, and that the request is 8 bytes. And a run of one request.
+-- One more request at the end of a run on any board: the board and the answers' bytes. And a run of one request.
 use mathlib.Core.Path.{_≡_, refl, ap, _∙_}
 use mathlib.Core.List.{List, [], _∷_, _++_, append-assoc, append-nil}
-use Prim.Native.Nat.{ℕ, zero, suc, _+_, _*_, _/_, _≤_, _<_}
+use Prim.Native.Nat.{ℕ, _+_, _*_, _/_}
 use native.Mathlib.Omega.{arith}
 use native.Mathlib.Numerals.{add-one}
-use lib.ListN.{length, take, drop, getD, length-append, length-take, length-drop, drop-of-length-le}
-use lib.Seq.{getD-drop, take-all}
+use lib.ListN.{length, drop, length-append, drop-of-length-le}
+use lib.Seq.{take-all}
 use Rattle.runs.specs.Runs.{after}
 use Rattle.runs.proofs.Grown.{after-more}
-use Rattle.words.specs.Bytes.{Bytes, byte}
+use Rattle.words.specs.Bytes.{byte}
 use Rattle.wire.specs.Answers.{encode}
 use Rattle.wire.specs.declared.Answer.{Answer}
-use Rattle.lent.specs.Pieces.{eightsOf, eightsIn, twelveEach, served, written}
+use Rattle.pieces.specs.Pieces.{eightsOf, eightsIn}
+use Rattle.pieces.proofs.Eights.{EightLong, eightAt, eightsOf-length}
+use Rattle.board.specs.Reached.{Eights}
+use Rattle.lent.specs.Served.{twelveEach, served, written}
 
 pub encode-length : (d : ℕ) (a : Answer) → length (encode d a) ≡ 12
 unfolding encode
 encode-length d a = refl
 
-pub eightsOf-length : (s : List ℕ) (k : ℕ) → length (eightsOf s k) ≡ k
-unfolding eightsOf
-eightsOf-length s zero = refl
-eightsOf-length s (suc k) = rw length-append (omega (arith, eightsOf-length s k))
-
--- request k of a slice
-abbrev pub eightAt : List ℕ → ℕ → List ℕ
-eightAt s k = take 8 (drop (8 * k) s)
-
-abbrev Small : List ℕ → Type 0
-Small s = (i : ℕ) → getD s i 0 < 256
-
-take-small : (n : ℕ) (s : List ℕ) → Small s → Small (take n s)
-take-small zero s h i = omega arith
-take-small (suc n) [] h i = omega arith
-take-small (suc n) (x ∷ s) h zero = h zero
-take-small (suc n) (x ∷ s) h (suc i) = take-small n s (λ j. h (suc j)) i
-
--- a part of a slice of bytes is bytes
-pub part-bytes : (s : List ℕ) (at n : ℕ) → Small s → at + n ≤ length s → Bytes n (take n (drop at s))
-part-bytes s at n small h =
-    record {
-      long = simp (length-take, length-drop) (omega arith);
-      small = take-small n (drop at s) (λ i. rw getD-drop (small (at + i)));
-    }
+pub eight-long : (qs : List (List ℕ)) → Eights qs → EightLong qs
+eight-long [] h = tt
+eight-long (q ∷ qs) h = (h .0 .long, eight-long qs (h .1))
 
 module _ {S : Type 0} (next : S → List ℕ → S) (reply : S → List ℕ → Answer) where
   served-snoc : (b : S) (qs : List (List ℕ)) (q : List ℕ) → served next reply b (qs ++ (q ∷ [])) ≡ served next reply b qs ++ encode (byte q 1) (reply (after next b qs) q)

@@ -1,4 +1,3 @@
-// Buffers that a host lends: their pieces, the board of an opening table, and when a run is refused.
+// Buffers that a host lends: the board of an opening table, and when a run is refused.
 pub mod opening;
-pub mod pieces;
 pub mod refusals;

@@ -8,7 +8,7 @@ use lib.Dec.{ltb}
 use lib.ListN.{length, take, drop, getD, length-append, List·getD-append}
 use lib.Seq.{paste-zero, take-length, length-take-le, length-paste, getD-take, getD-drop, getD-append-add}
 use Rattle.items.proofs.Tests.{by-test}
-use Rattle.lent.proofs.Buffers.{grows}
+use Rattle.pieces.proofs.Buffers.{grows}
 use Rattle.records.specs.Records.{over}
 
 -- the buffer before them, they, and the buffer after them

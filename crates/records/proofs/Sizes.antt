@@ -11,7 +11,7 @@ use lib.ListN.{length, length-append}
 use Rattle.items.specs.Items.{has}
 use Rattle.items.specs.declared.Items.{Items}
 use Rattle.items.proofs.Tests.{by-test, by-cond, by-equal}
-use Rattle.lent.specs.Pieces.{inOne}
+use Rattle.pieces.specs.Pieces.{inOne}
 use Rattle.records.specs.Records.{countBelow, itemRecord, itemRecords, entry, sizeOf, room}
 
 -- pieces in one, one after another

@@ -12,7 +12,7 @@ use Rattle.counters.specs.declared.Number.{Number}
 use Rattle.words.specs.Bytes.{fourBytes}
 use Rattle.desks.specs.Desks.{copyOf}
 use Rattle.desks.specs.declared.Desk.{Desk}
-use Rattle.lent.specs.Pieces.{inOne}
+use Rattle.pieces.specs.Pieces.{inOne}
 
 abbrev pub recordOf : ℕ → ℕ → ℕ → ℕ → List ℕ
 recordOf kind item number value = kind ∷ item ∷ number % 256 ∷ number / 256 % 256 ∷ fourBytes value

@@ -2,11 +2,11 @@
 use counters::Number;
 use desks::Desk;
 use items::Items;
-use lent::pieces::put;
+use pieces::put;
 ghost use mathlib.Core.Path.{_≡_};
 ghost use Prim.Native.Nat.{_+_, _≤_, _<_};
 ghost use lib.ListN.{length};
-ghost use Rattle.lent.specs.Pieces.{inOne};
+ghost use Rattle.pieces.specs.Pieces.{inOne};
 ghost use Rattle.records.specs.Records.{room, recordOf, sizeOf, itemRecord, recordsOf, over};
 
 // A record: byte 0 the kind, byte 1 the item, bytes 2 and 3 the number, bytes 4 to 7 the value.

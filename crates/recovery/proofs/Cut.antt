@@ -16,7 +16,7 @@ use Rattle.words.specs.Bytes.{Bytes, byte}
 use Rattle.table.specs.Table.{wrong}
 use Rattle.board.specs.Opening.{opening}
 use Rattle.board.specs.declared.Board.{Board}
-use Rattle.lent.specs.Pieces.{eightsOf}
+use Rattle.pieces.specs.Pieces.{eightsOf}
 use Rattle.records.specs.Records.{room}
 use Rattle.records.proofs.Sizes.{room-most, room-within}
 use Rattle.journal.specs.Journal.{Ledger, opened, next}

@@ -28,8 +28,8 @@ use Rattle.board.proofs.Sound.{Sound, opening-sound, step-sound}
 use Rattle.board.proofs.Reached.{sound-counted}
 use Rattle.board.proofs.Bounds.{desk-low}
 use Rattle.board.proofs.Granted.{Granted, answer-granted}
-use Rattle.lent.specs.Pieces.{eightsOf, inOne}
-use Rattle.lent.proofs.InOne.{EightLong, inOne-length}
+use Rattle.pieces.specs.Pieces.{eightsOf, inOne}
+use Rattle.pieces.proofs.Eights.{EightLong, inOne-length}
 use Rattle.records.specs.Records.{recordOf, countBelow, itemRecord, itemRecords, entry, sizeOf, room, over}
 use Rattle.records.proofs.Appended.{over-none, over-length, over-inside, over-after}
 use Rattle.records.proofs.Sizes.{inOne-append, room-within}

@@ -6,9 +6,8 @@ use native.Mathlib.Omega.{arith}
 use lib.ListN.{length, take, drop, length-append, length-take, length-drop}
 use lib.Seq.{drop-append-le, take-append-le, take-add, length-take-le, getD-take, getD-drop}
 use Rattle.words.specs.Bytes.{byte}
-use Rattle.lent.specs.Pieces.{eightsOf, inOne}
-use Rattle.lent.proofs.Served.{eightAt, eightsOf-length}
-use Rattle.lent.proofs.InOne.{EightLong, eightsOf-more}
+use Rattle.pieces.specs.Pieces.{eightsOf, inOne}
+use Rattle.pieces.proofs.Eights.{eightAt, eightsOf-length, EightLong, eightsOf-more}
 use Rattle.records.specs.Records.{over}
 use Rattle.records.proofs.Appended.{over-is}
 use Rattle.records.proofs.Sizes.{inOne-append}

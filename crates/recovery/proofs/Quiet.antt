@@ -8,8 +8,8 @@ use Rattle.items.proofs.Tests.{by-cond, by-equal, clash}
 use Rattle.runs.specs.Runs.{after}
 use Rattle.runs.proofs.Grown.{after-more}
 use Rattle.words.specs.Bytes.{byte}
-use Rattle.lent.specs.Pieces.{eightsOf}
-use Rattle.lent.proofs.Served.{eightAt}
+use Rattle.pieces.specs.Pieces.{eightsOf}
+use Rattle.pieces.proofs.Eights.{eightAt}
 use Rattle.restart.specs.Restart.{fitsItem, fitsClosing, read}
 use Rattle.restart.specs.declared.reading.Reading.{Reading}
 use Rattle.restart.proofs.Fitting.{no-closing}

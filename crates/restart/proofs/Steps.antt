@@ -9,8 +9,8 @@ use native.Mathlib.Numerals.{add-one}
 use Rattle.items.proofs.Tests.{by-cond}
 use Rattle.runs.specs.Runs.{after}
 use Rattle.runs.proofs.Grown.{after-more}
-use Rattle.lent.specs.Pieces.{eightsOf}
-use Rattle.lent.proofs.Served.{eightAt}
+use Rattle.pieces.specs.Pieces.{eightsOf}
+use Rattle.pieces.proofs.Eights.{eightAt}
 use Rattle.words.specs.Bytes.{byte}
 use Rattle.restart.specs.Restart.{valueIn, fitsItem, fitsClosing, itemRead, closed, halted, read}
 use Rattle.restart.specs.declared.reading.Reading.{Reading}

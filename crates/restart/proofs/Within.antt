@@ -13,7 +13,7 @@ use Rattle.table.specs.Table.{floorAt, ceilingAt, valueAt, wrong}
 use Rattle.table.proofs.Rows.{right-row}
 use Rattle.board.specs.Opening.{opening}
 use Rattle.board.proofs.Filled.{column-length, column-at}
-use Rattle.lent.specs.Pieces.{eightsOf}
+use Rattle.pieces.specs.Pieces.{eightsOf}
 use Rattle.records.specs.Records.{room}
 use Rattle.restart.specs.Restart.{valueIn, unread, read, restored}
 use Rattle.restart.specs.declared.reading.Reading.{Reading}

@@ -9,7 +9,7 @@ use Rattle.runs.specs.Runs.{after}
 use Rattle.words.specs.Bytes.{byte, wordAt, fourBytes}
 use Rattle.table.specs.Table.{floorAt, ceilingAt, wrong}
 use Rattle.board.specs.Opening.{opening}
-use Rattle.lent.specs.Pieces.{eightsOf}
+use Rattle.pieces.specs.Pieces.{eightsOf}
 use Rattle.records.specs.Records.{room, over}
 use Rattle.restart.specs.declared.reading.Reading.{Reading}
 

@@ -2,7 +2,7 @@
 mod reading;
 
 use crate::reading::restored;
-use lent::pieces::put;
+use pieces::put;
 use table::wrong;
 use words::four_bytes;
 ghost use mathlib.Core.Path.{_≡_};

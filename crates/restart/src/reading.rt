@@ -1,6 +1,6 @@
 // Reading a journal: record by record, up to the first that does not fit the form or the order.
 use lent::opening::opening;
-use lent::pieces::eight;
+use pieces::eight;
 use records::room;
 use words::number;
 use words::number_at;

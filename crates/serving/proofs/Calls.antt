@@ -13,12 +13,12 @@ use Rattle.board.specs.Rules.{next, reply}
 use Rattle.board.specs.Opening.{opening}
 use Rattle.board.specs.declared.Board.{Board}
 use Rattle.board.proofs.Reached.{reached-opening, reached-step}
-use Rattle.lent.specs.Pieces.{eightsIn, inOne}
+use Rattle.pieces.specs.Pieces.{eightsIn, inOne}
 use Rattle.serving.specs.Run.{told, completed, outcome, openedBy, steppedBy}
 use Rattle.serving.specs.Calls.{OpenReaches, OpenKeeps, StepKeeps, CallsAreRun}
 use Rattle.lent.proofs.Refused.{refuses-none, completed-run}
-use Rattle.lent.proofs.Served.{written-served}
-use Rattle.lent.proofs.InOne.{eight-long, inOne-length, apart}
+use Rattle.lent.proofs.Served.{written-served, eight-long}
+use Rattle.pieces.proofs.Eights.{inOne-length, apart}
 
 -- ---- one call
 

@@ -8,7 +8,7 @@ use lib.Signed.{ltZ}
 use lib.ListN.{length}
 use Rattle.items.proofs.Tests.{by-equal, clash}
 use Rattle.board.specs.Opening.{opening}
-use Rattle.lent.specs.Pieces.{eightsIn}
+use Rattle.pieces.specs.Pieces.{eightsIn}
 use Rattle.lent.specs.Refusals.{refusal}
 use Rattle.lent.proofs.Refused.{Accepted, accepted, refused-run}
 use Rattle.serving.specs.Run.{told, completed, outcome}

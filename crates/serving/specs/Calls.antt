@@ -10,7 +10,8 @@ use Rattle.words.specs.Bytes.{Bytes}
 use Rattle.table.specs.Table.{wrong}
 use Rattle.board.specs.Reached.{Eights, Reached}
 use Rattle.board.specs.declared.Board.{Board}
-use Rattle.lent.specs.Pieces.{inOne, written, fourEach}
+use Rattle.pieces.specs.Pieces.{inOne, fourEach}
+use Rattle.lent.specs.Served.{written}
 use Rattle.serving.specs.Run.{told, outcome, openedBy, steppedBy}
 
 -- the board that a call of hub_step leaves, and the answer that it writes

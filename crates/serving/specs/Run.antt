@@ -11,7 +11,8 @@ use Rattle.table.specs.Table.{wrong}
 use Rattle.board.specs.Rules.{next, reply}
 use Rattle.board.specs.Opening.{opening}
 use Rattle.board.specs.declared.Board.{Board}
-use Rattle.lent.specs.Pieces.{eightsIn, served, fourEach}
+use Rattle.pieces.specs.Pieces.{eightsIn, fourEach}
+use Rattle.lent.specs.Served.{served}
 use Rattle.lent.specs.Refusals.{refusal, unless}
 use Rattle.serving.specs.declared.host.Opened.{Opened}
 use Rattle.serving.specs.declared.host.Told.{Told}

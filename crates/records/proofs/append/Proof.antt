@@ -6,7 +6,7 @@ use native.Mathlib.Omega.{arith}
 use borrow.Author.Needs.{needs}
 use lib.ListN.{length, getD}
 use Rattle.desks.specs.Desks.{copyOf}
-use Rattle.lent.specs.Pieces.{inOne}
+use Rattle.pieces.specs.Pieces.{inOne}
 use Rattle.records.specs.Records.{countBelow, recordOf, itemRecord, itemRecords, over}
 use Rattle.records.proofs.Appended.{over-none, over-more}
 use Rattle.records.proofs.Sizes.{inOne-append, count-suc, items-suc, item-length, items-length, count-most, count-below, entry-length}

@@ -12,8 +12,9 @@ use mir.Facts.{toZ-pos}
 use Rattle.runs.specs.Runs.{after}
 use Rattle.words.specs.Bytes.{Bytes}
 use Rattle.table.proofs.Rows.{right-long}
-use Rattle.lent.specs.Pieces.{eightsIn, served, fourEach}
-use Rattle.lent.proofs.Served.{eightsOf-length}
+use Rattle.pieces.specs.Pieces.{eightsIn, fourEach}
+use Rattle.lent.specs.Served.{served}
+use Rattle.pieces.proofs.Eights.{eightsOf-length}
 use Rattle.lent.proofs.Refused.{accepted}
 use Rattle.journal.specs.Journal.{Ledger, opened, next, reply}
 use Rattle.journaling.specs.Run.{told}

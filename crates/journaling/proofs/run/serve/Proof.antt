@@ -9,9 +9,11 @@ use lib.ListN.{length, drop}
 use Rattle.runs.specs.Runs.{after}
 use Rattle.words.specs.Bytes.{byte}
 use Rattle.wire.specs.Answers.{encode}
-use Rattle.lent.specs.Pieces.{eightsOf, twelveEach, served}
-use Rattle.lent.proofs.Buffers.{turn}
-use Rattle.lent.proofs.Served.{eightAt, encode-length, next-board, next-answer, answers-length, part-bytes}
+use Rattle.pieces.specs.Pieces.{eightsOf}
+use Rattle.lent.specs.Served.{twelveEach, served}
+use Rattle.pieces.proofs.Buffers.{turn}
+use Rattle.pieces.proofs.Eights.{eightAt, part-bytes}
+use Rattle.lent.proofs.Served.{encode-length, next-board, next-answer, answers-length}
 use Rattle.journal.specs.Journal.{Ledger, step, next, reply, journalAfter}
 use Rattle.journal.specs.Reached.{Reached}
 use Rattle.journal.proofs.Kept.{reached-call}

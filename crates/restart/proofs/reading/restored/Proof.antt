@@ -7,7 +7,7 @@ use Rattle.runs.specs.Runs.{after}
 use Rattle.table.proofs.Rows.{right-long}
 use Rattle.board.specs.Opening.{opening}
 use Rattle.board.specs.declared.Board.{Board}
-use Rattle.lent.specs.Pieces.{eightsOf}
+use Rattle.pieces.specs.Pieces.{eightsOf}
 use Rattle.records.proofs.Sizes.{room-most, room-within}
 use Rattle.restart.specs.Restart.{unread, read, restored}
 use Rattle.restart.proofs.Steps.{commits-most, items-most, one-more}

@@ -16,10 +16,11 @@ use Rattle.board.specs.Rules.{next, reply}
 use Rattle.board.specs.Opening.{opening}
 use Rattle.board.specs.declared.Board.{Board}
 use Rattle.board.proofs.Reached.{reached-opening}
-use Rattle.lent.specs.Pieces.{eightsIn, served, fourEach}
+use Rattle.pieces.specs.Pieces.{eightsIn, fourEach}
+use Rattle.lent.specs.Served.{served}
 use Rattle.serving.specs.Run.{told}
 use Rattle.lent.proofs.Refused.{accepted}
-use Rattle.lent.proofs.Served.{eightsOf-length}
+use Rattle.pieces.proofs.Eights.{eightsOf-length}
 use Rattle.serving.proofs.run.complete.Statement.{statement}
 use Rattle.serving.proofs.run.complete.Tie as tie
 

@@ -13,9 +13,11 @@ use Rattle.board.specs.Rules.{step, next, reply}
 use Rattle.board.proofs.Reached.{reached-step}
 use Rattle.board.specs.declared.Board.{Board}
 use Rattle.board.specs.declared.Stepped.{Stepped}
-use Rattle.lent.specs.Pieces.{eightsOf, twelveEach, served}
-use Rattle.lent.proofs.Buffers.{turn}
-use Rattle.lent.proofs.Served.{eightAt, encode-length, next-board, next-answer, answers-length, part-bytes}
+use Rattle.pieces.specs.Pieces.{eightsOf}
+use Rattle.lent.specs.Served.{twelveEach, served}
+use Rattle.pieces.proofs.Buffers.{turn}
+use Rattle.pieces.proofs.Eights.{eightAt, part-bytes}
+use Rattle.lent.proofs.Served.{encode-length, next-board, next-answer, answers-length}
 use Rattle.serving.proofs.run.serve.Statement.{statement}
 use Rattle.serving.proofs.run.serve.Tie as tie
 

@@ -5,9 +5,9 @@ use Prim.Native.Nat.{ℕ, _+_, _-_}
 use native.Mathlib.Omega.{arith}
 use lib.ListN.{length, take, drop, replicate, length-take, length-drop}
 use lib.Seq.{paste}
-use Rattle.lent.proofs.Buffers.{paste-all}
-use Rattle.lent.proofs.pieces.eight.Statement.{statement}
-use Rattle.lent.proofs.pieces.eight.Tie as tie
+use Rattle.pieces.proofs.Buffers.{paste-all}
+use Rattle.pieces.proofs.eight.Statement.{statement}
+use Rattle.pieces.proofs.eight.Tie as tie
 
 slice-aggregate-put : tie.Need-slice-aggregate-put
 slice-aggregate-put c = search needs

@@ -5,7 +5,7 @@ ghost use mathlib.Core.List.{_++_};
 ghost use Prim.Native.Nat.{_+_, _≤_};
 ghost use lib.ListN.{length, take, drop};
 ghost use lib.Seq.{paste};
-ghost use Rattle.lent.specs.Pieces.{fourEach};
+ghost use Rattle.pieces.specs.Pieces.{fourEach};
 
 // Puts a piece into the buffer, from index at on.
 pub fn put(buffer: &mut [u8], at: usize, piece: &[u8])

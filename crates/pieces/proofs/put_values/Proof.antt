@@ -6,10 +6,10 @@ use Prim.Native.Nat.{ℕ, _≤_, _-_, _*_}
 use lib.Seq.{take-all}
 use native.Mathlib.Omega.{arith}
 use lib.ListN.{length, take, drop}
-use Rattle.lent.specs.Pieces.{fourEach}
-use Rattle.lent.proofs.Buffers.{turn, fourEach-suc, fourEach-take}
-use Rattle.lent.proofs.pieces.put_values.Statement.{statement}
-use Rattle.lent.proofs.pieces.put_values.Tie as tie
+use Rattle.pieces.specs.Pieces.{fourEach}
+use Rattle.pieces.proofs.Buffers.{turn, fourEach-suc, fourEach-take}
+use Rattle.pieces.proofs.put_values.Statement.{statement}
+use Rattle.pieces.proofs.put_values.Tie as tie
 
 abbrev Inv-loop : tie.InvT-loop
 Inv-loop buffer₀ values i₀ buffer i = (i ≤ 64) × (buffer ≡ fourEach (take i values) ++ drop (4 * i) buffer₀) × (length buffer ≡ length buffer₀)

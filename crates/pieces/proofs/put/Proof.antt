@@ -5,8 +5,8 @@ use native.Mathlib.Omega.{arith}
 use native.Mathlib.Numerals.{add-one}
 use lib.ListN.{length, length-set}
 use lib.Seq.{paste, paste-zero, paste-suc}
-use Rattle.lent.proofs.pieces.put.Statement.{statement}
-use Rattle.lent.proofs.pieces.put.Tie as tie
+use Rattle.pieces.proofs.put.Statement.{statement}
+use Rattle.pieces.proofs.put.Tie as tie
 
 abbrev Inv-loop : tie.InvT-loop
 Inv-loop buffer₀ at piece j₀ buffer j = (j ≤ length piece) × (buffer ≡ paste buffer₀ at piece j) × (length buffer ≡ length buffer₀)

@@ -1,21 +1,45 @@
--- Pieces of 8 bytes in one, and apart again.
-use Prim.Native.Nat.{ℕ, zero, suc, _+_, _*_, _/_}
+-- Pieces of 8 bytes: one of a slice, all of them in one, and apart again.
+use Prim.Native.Nat.{ℕ, zero, suc, _+_, _*_, _/_, _≤_, _<_}
 use mathlib.Core.Path.{_≡_, refl, ap, sym, _∙_}
 use mathlib.Core.List.{List, [], _∷_, _++_, append-assoc, append-nil}
 use native.Mathlib.Omega.{arith}
-use lib.ListN.{length, length-append}
-use lib.Seq.{take-at, drop-append-add}
-use Rattle.board.specs.Reached.{Eights}
-use Rattle.lent.specs.Pieces.{eightsOf, eightsIn, inOne}
+use lib.ListN.{length, take, drop, getD, length-append, length-take, length-drop}
+use lib.Seq.{take-at, drop-append-add, getD-drop}
+use Rattle.words.specs.Bytes.{Bytes}
+use Rattle.pieces.specs.Pieces.{eightsOf, eightsIn, inOne}
+
+-- piece k of a slice
+abbrev pub eightAt : List ℕ → ℕ → List ℕ
+eightAt s k = take 8 (drop (8 * k) s)
+
+pub eightsOf-length : (s : List ℕ) (k : ℕ) → length (eightsOf s k) ≡ k
+unfolding eightsOf
+eightsOf-length s zero = refl
+eightsOf-length s (suc k) = rw length-append (omega (arith, eightsOf-length s k))
+
+abbrev Small : List ℕ → Type 0
+Small s = (i : ℕ) → getD s i 0 < 256
+
+take-small : (n : ℕ) (s : List ℕ) → Small s → Small (take n s)
+take-small zero s h i = omega arith
+take-small (suc n) [] h i = omega arith
+take-small (suc n) (x ∷ s) h zero = h zero
+take-small (suc n) (x ∷ s) h (suc i) = take-small n s (λ j. h (suc j)) i
+
+-- a part of a slice of bytes is bytes
+pub part-bytes : (s : List ℕ) (at n : ℕ) → Small s → at + n ≤ length s → Bytes n (take n (drop at s))
+part-bytes s at n small h =
+    record {
+      long = simp (length-take, length-drop) (omega arith);
+      small = take-small n (drop at s) (λ i. rw getD-drop (small (at + i)));
+    }
+
+-- ---- in one, and apart again
 
 -- each is 8 long
 abbrev pub EightLong : List (List ℕ) → Type 0
 EightLong [] = Unit {0}
 EightLong (q ∷ qs) = (length q ≡ 8) × EightLong qs
-
-pub eight-long : (qs : List (List ℕ)) → Eights qs → EightLong qs
-eight-long [] h = tt
-eight-long (q ∷ qs) h = (h .0 .long, eight-long qs (h .1))
 
 -- the first one, and those after it
 eightsOf-cons : (q s : List ℕ) → length q ≡ 8 → (n : ℕ) → eightsOf (q ++ s) (suc n) ≡ q ∷ eightsOf s n

@@ -8,7 +8,7 @@ use native.Mathlib.Numerals.{add-one}
 use lib.ListN.{length, take, drop, getD, drop-of-length-le}
 use lib.Seq.{paste, take-at, take-length, length-take-le, take-suc, drop-append-add, drop-drop}
 use Rattle.words.specs.Bytes.{fourBytes}
-use Rattle.lent.specs.Pieces.{fourEach}
+use Rattle.pieces.specs.Pieces.{fourEach}
 
 -- a piece over the whole of d
 pub paste-all : (d s : List ℕ) → length d ≡ length s → paste d 0 s (length s) ≡ s
