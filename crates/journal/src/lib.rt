@@ -2,6 +2,8 @@
 // board follows, and the records are put into the journal.
 use answering::answer;
 use board::Board;
+use decoding::decode;
+use decoding::desk_of;
 use desks::Desk;
 use items::Items;
 use records::append;
@@ -9,8 +11,6 @@ use records::room;
 use records::size;
 use stepping::following::follow;
 use wire::Answer;
-use wire::requests::decode;
-use wire::requests::desk_of;
 ghost use mathlib.Core.Path.{_≡_};
 ghost use Prim.Native.Nat.{_+_, _≤_};
 ghost use lib.ListN.{length};

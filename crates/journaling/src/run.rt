@@ -1,5 +1,6 @@
 // A whole run with a journal.
 use crate::host::fresh;
+use encoding::encode;
 use journal::Journaled;
 use journal::Stepped;
 use journal::step;
@@ -7,7 +8,6 @@ use pieces::eight;
 use pieces::put;
 use pieces::put_values;
 use wire::Answer;
-use wire::answers::encode;
 ghost use mathlib.Core.Path.{_≡_};
 ghost use mathlib.Core.List.{_++_};
 ghost use Prim.Native.Nat.{_*_, _/_, _≤_};

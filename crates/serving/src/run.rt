@@ -2,12 +2,12 @@
 use crate::lending::next;
 use board::Board;
 use board::Stepped;
+use encoding::encode;
 use lent::opening::opening;
 use pieces::eight;
 use pieces::put;
 use pieces::put_values;
 use wire::Answer;
-use wire::answers::encode;
 ghost use mathlib.Core.Path.{_≡_};
 ghost use mathlib.Core.List.{_++_};
 ghost use Prim.Native.Nat.{_*_, _/_, _≤_};

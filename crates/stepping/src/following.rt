@@ -1,12 +1,12 @@
 // The board after an answer.
 use board::Board;
+use decoding::desk_of;
+use decoding::value_of;
 use desks::Desk;
 use desks::idle;
 use desks::opened;
 use wire::Answer;
 use wire::Decoded;
-use wire::requests::desk_of;
-use wire::requests::value_of;
 ghost use mathlib.Core.Path.{_≡_};
 ghost use Prim.Native.Nat.{_<_};
 ghost use Rattle.wire.specs.Requests.{deskOf};

@@ -5,7 +5,7 @@ use crate::following::follow;
 use answering::answer;
 use board::Board;
 use board::Stepped;
-use wire::requests::decode;
+use decoding::decode;
 ghost use mathlib.Core.Path.{_≡_};
 ghost use Rattle.board.specs.Rules.{step};
 ghost use Rattle.board.specs.Reached.{Reached};

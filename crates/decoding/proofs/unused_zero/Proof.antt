@@ -2,9 +2,9 @@
 use mathlib.Core.Bool.{and-true, and-false}
 use borrow.Author.Tests.{ne-eqb}
 use native.Mathlib.Omega.{arith}
 use Rattle.wire.specs.Requests.{unusedZero}
-use Rattle.wire.proofs.requests.unused_zero.Statement.{statement}
-use Rattle.wire.proofs.requests.unused_zero.Tie as tie
+use Rattle.decoding.proofs.unused_zero.Statement.{statement}
+use Rattle.decoding.proofs.unused_zero.Tie as tie
 
 returns : tie.Need-returns
 unfolding unusedZero

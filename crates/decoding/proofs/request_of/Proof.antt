@@ -2,9 +2,9 @@
 use mathlib.Core.Path.{_≡_}
 use native.Mathlib.Omega.{arith}
 use borrow.Author.Tests.{ne-eqb}
 use Rattle.wire.specs.Requests.{requestOf}
-use Rattle.wire.proofs.requests.request_of.Statement.{statement}
-use Rattle.wire.proofs.requests.request_of.Tie as tie
+use Rattle.decoding.proofs.request_of.Statement.{statement}
+use Rattle.decoding.proofs.request_of.Tie as tie
 
 returns : tie.Need-returns
 unfolding requestOf

@@ -4,11 +4,11 @@ use Prim.Native.Nat.{ℕ}
 use mathlib.Core.Path.{_≡_, sym, ap, _∙_}
 use mathlib.Core.List.{List}
 use Rattle.words.specs.Bytes.{byte}
 use Rattle.wire.specs.Answers.{fields, recordOf, encode}
 use Rattle.wire.specs.declared.Answer.{Answer}
 use Rattle.wire.specs.declared.Answer.the-variants.{Aborted}
-use Rattle.wire.proofs.answers.encode.Statement.{statement}
-use Rattle.wire.proofs.answers.encode.Tie as tie
+use Rattle.encoding.proofs.encode.Statement.{statement}
+use Rattle.encoding.proofs.encode.Tie as tie
 
 -- the answer is known to be x, and what is given is the record of x
 arm : (desk : ℕ) {a x : Answer} → a ≡ x → {r : List ℕ} → r ≡ (let f = fields x in recordOf (byte f 0) desk (byte f 1) (byte f 2) (byte f 3) (byte f 4)) → r ≡ encode desk a

@@ -1,8 +1,8 @@
 // An answer: 12 bytes.
-use crate::Answer;
-use crate::Reason;
+use wire::Answer;
+use wire::Reason;
 ghost use mathlib.Core.Path.{_≡_};
 ghost use Rattle.wire.specs.Answers.{recordOf, encode};
 
 fn record(code: u8, desk: u8, item: u8, reason: u8, first: u32, second: u32) -> [u8; 12]
     ensures { λ r. ⌜ r ≡ recordOf code desk item reason first second ⌝ }

@@ -1,9 +1,9 @@
 // A request: 8 bytes.
-use crate::Decoded;
-use crate::Request;
+use wire::Decoded;
+use wire::Request;
 use words::number;
 ghost use mathlib.Core.Path.{_≡_};
 ghost use Rattle.wire.specs.Requests.{requestOf, unusedZero, valueIn, decode, deskOf, valueOf};
 
 // The request of a kind that is 1 to 5.
 fn request_of(kind: u8, item: u8, value: u32) -> Request

@@ -10,11 +10,11 @@ use borrow.Author.Tests.{ne-eqb, not-true, not-false}
 use lib.Dec.{eqb, ltb}
 use Rattle.items.proofs.Tests.{or-both, or-in-right}
 use Rattle.words.specs.Bytes.{byte}
 use Rattle.wire.specs.Requests.{requestOf, unusedZero}
 use Rattle.wire.specs.declared.Decoded.the-variants.{Asked}
 use Rattle.wire.proofs.Forms.{kind-wrong, desk-wrong, field-wrong, all-right}
-use Rattle.wire.proofs.requests.decode.Statement.{statement}
-use Rattle.wire.proofs.requests.decode.Tie as tie
+use Rattle.decoding.proofs.decode.Statement.{statement}
+use Rattle.decoding.proofs.decode.Tie as tie
 
 known-kind : (q : List ℕ) → (byte q 0 ≡ 0 → ⊥) → ltb 5 (byte q 0) ≡ false → (eqb (byte q 0) 0 || ltb 5 (byte q 0)) ≡ false
 known-kind q h e = or-both (eqb (byte q 0) 0) (ltb 5 (byte q 0)) (ne-eqb (byte q 0) 0 h) e
