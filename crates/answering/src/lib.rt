@@ -1,29 +1,19 @@
 // What is answered to a request: checks 4 to 9 in their order, then the locks or the end's validation. The board is only read.
-mod validation;
-
-use crate::validation::first_stale;
 use board::Board;
 use desks::Desk;
-use desks::locks::locked;
+use desks::is_open;
+use ending::end;
+use locking::locked;
 use wire::Answer;
 use wire::Decoded;
-use wire::Reason;
 use wire::Request;
 ghost use mathlib.Core.Path.{_≡_};
 ghost use Prim.Native.Nat.{_<_};
 ghost use Rattle.wire.specs.Checks.{firstFailing};
 ghost use Rattle.wire.specs.Requests.{deskOf};
 ghost use Rattle.wire.specs.declared.Request;
-ghost use Rattle.desks.specs.Desks.{isOpen};
 ghost use Rattle.board.specs.Rules.{itemChecks, seen, answered, answer};
 ghost use Rattle.board.specs.Reached.{Counted};
-
-// A transaction is open: ages begin at 1.
-fn is_open(k: Desk) -> bool
-    ensures { λ r. ⌜ r ≡ isOpen k ⌝ }
-{
-    k.age.0 != 0
-}
 
 fn begin(b: Board, d: usize) -> Answer
     requires { ⌜ d < 16 ⌝ }
@@ -100,37 +90,6 @@ fn write(b: Board, d: usize, i: u8, v: u32) -> Answer
         return Answer::Refused(8);
     }
     locked(desks, b.guarded, d, i, true, Answer::Stored(i))
-}
-
-// Commit, or abort as too old or overwritten. It is one function, since the compiler copies the desks once more for each one split off.
-fn end(b: Board, d: usize) -> Answer
-    requires { ⌜ d < 16 ⌝ }
-    requires { ⌜ Counted b ⌝ }
-    ensures { λ r. ⌜ r ≡ answered b d Request.End ⌝ }
-{
-    let desks = b.desks;
-    let k = desks[d];
-    if !is_open(k) {
-        return Answer::Refused(5);
-    }
-    let last = b.number;
-    let number = last.next();
-    if k.read.is_empty() {
-        return Answer::Committed(number);
-    }
-    let start = k.start;
-    if last.since(start) > 16 {
-        return Answer::Aborted(Reason::TooOld(start));
-    }
-    let sets = b.sets;
-    let stale = first_stale(sets, k.read, start, last);
-    if stale.0 > last.0 {
-        return Answer::Committed(number);
-    }
-    let set = sets[stale.place()];
-    let both = set.common(k.read);
-    let item = both.lowest() as u8;
-    Answer::Aborted(Reason::Overwritten(item, stale))
 }
 
 fn abandon(b: Board, d: usize) -> Answer

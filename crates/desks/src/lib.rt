@@ -1,11 +1,10 @@
-// The desks: a desk's record, and the locks between desks. No board is in it.
-pub mod locks;
+// A desk's record. The rules of the locks between desks are in specs/, their code is locking.
 
 use counters::Age;
 use counters::Number;
 use items::Items;
 ghost use mathlib.Core.Path.{_≡_};
-ghost use Rattle.desks.specs.Desks.{opened, idle};
+ghost use Rattle.desks.specs.Desks.{opened, idle, isOpen};
 
 // A desk's record: its open transaction, or all zero. It has no padding, so that it is copied whole.
 #[repr(C)]
@@ -37,4 +36,11 @@ pub fn idle() -> Desk
     ensures { λ r. ⌜ r ≡ idle ⌝ }
 {
     opened(Age::ZERO, Number::ZERO)
+}
+
+// A transaction is open: ages begin at 1.
+pub fn is_open(k: Desk) -> bool
+    ensures { λ r. ⌜ r ≡ isOpen k ⌝ }
+{
+    k.age.0 != 0
 }

@@ -4,11 +4,11 @@ use mathlib.Core.Path.{_≡_, refl, sym, _∙_}
 use mathlib.Core.Logic.{⊎-elim}
 use native.Mathlib.Omega.{arith}
 use borrow.Author.Needs.{needs}
 use Rattle.desks.specs.Desks.{conflicts, deskIn}
-use Rattle.desks.proofs.Found.{FoundBelow, found-none, found-passed, found-older}
+use Rattle.locking.proofs.Search.{FoundBelow, found-none, found-passed, found-older}
 use Rattle.desks.proofs.Locking.{holder-others}
-use Rattle.desks.proofs.locks.holder.Statement.{statement}
-use Rattle.desks.proofs.locks.holder.Tie as tie
+use Rattle.locking.proofs.holder.Statement.{statement}
+use Rattle.locking.proofs.holder.Tie as tie
 
 abbrev Inv-loop : tie.InvT-loop
 Inv-loop d i w others found₀ e₀ found e = (e ≤ 16) × FoundBelow (λ n. conflicts (deskIn others n) i w) (λ n. deskIn others n .age .0) e found

@@ -3,9 +3,9 @@ use mathlib.Core.Path.{sym, _∙_}
 use native.Mathlib.Omega.{arith}
 use borrow.Author.Needs.{needs}
 use borrow.Author.Tests.{not-true, not-false}
 use Rattle.desks.proofs.Locking.{locked-open, locked-free, locked-wait, locked-yield}
-use Rattle.desks.proofs.locks.locked.Statement.{statement}
-use Rattle.desks.proofs.locks.locked.Tie as tie
+use Rattle.locking.proofs.locked.Statement.{statement}
+use Rattle.locking.proofs.locked.Tie as tie
 
 has-requires : tie.Need-has-requires
 has-requires c κs = search needs

@@ -6,8 +6,8 @@ use native.Mathlib.Numerals.{add-one}
 use lib.Dec.{eqb, ltb}
 use Rattle.items.proofs.Tests.{by-cond, clash, or-same}
 use Rattle.counters.specs.declared.Age.{Age}
 use Rattle.desks.specs.Desks.{eldest}
-use Rattle.desks.specs.declared.locks.Found.{Found}
+use Rattle.locking.specs.declared.Found.{Found}
 
 -- of the desks below n that pass, f is the eldest
 pub record FoundBelow (p : ℕ → Bool) (age : ℕ → ℕ) (n : ℕ) (f : Found) : Type 0 where

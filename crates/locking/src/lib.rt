@@ -1,7 +1,7 @@
-// Who holds a guarded item.
-use crate::Desk;
-use crate::idle;
+// Who holds a guarded item, and what is answered of it.
 use counters::Age;
+use desks::Desk;
+use desks::idle;
 use items::Items;
 use wire::Answer;
 use wire::Reason;

@@ -1,7 +1,7 @@
 -- The callees say it.
 use borrow.Author.Needs.{needs}
-use Rattle.answering.proofs.validation.shares.Statement.{statement}
-use Rattle.answering.proofs.validation.shares.Tie as tie
+use Rattle.ending.proofs.validation.shares.Statement.{statement}
+use Rattle.ending.proofs.validation.shares.Tie as tie
 
 place-requires : tie.Need-place-requires
 place-requires c κs = search needs

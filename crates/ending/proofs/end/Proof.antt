@@ -12,8 +12,8 @@ use Rattle.board.specs.declared.Board.{Board}
 use Rattle.board.proofs.Decided.{end-none, end-granted}
 use Rattle.board.proofs.Validated.{ended-unread, ended-old, ended-fresh, ended-stale}
 use borrow.Author.Needs.{needs}
-use Rattle.answering.proofs.end.Statement.{statement}
-use Rattle.answering.proofs.end.Tie as tie
+use Rattle.ending.proofs.end.Statement.{statement}
+use Rattle.ending.proofs.end.Tie as tie
 
 -- the number of a board with an open transaction is below 2,000
 room : {b : Board} {d : ℕ} → Counted b → d < 16 → isOpen (deskAt b d) ≡ true → b .number .0 < 2000

@@ -1,7 +1,7 @@
 -- By what the desk has written, then by the kind of the request.
 use borrow.Author.Needs.{needs}
-use Rattle.desks.proofs.locks.conflicts.Statement.{statement}
-use Rattle.desks.proofs.locks.conflicts.Tie as tie
+use Rattle.locking.proofs.conflicts.Statement.{statement}
+use Rattle.locking.proofs.conflicts.Tie as tie
 
 has-requires : tie.Need-has-requires
 has-requires c κs = search needs

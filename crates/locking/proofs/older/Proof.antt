@@ -5,8 +5,8 @@ use mathlib.Core.Bool.{true, false, or-true}
 use borrow.Author.Tests.{ne-eqb}
 use lib.Dec.{ltb}
 use borrow.Author.Needs.{needs}
-use Rattle.desks.proofs.locks.older.Statement.{statement}
-use Rattle.desks.proofs.locks.older.Tie as tie
+use Rattle.locking.proofs.older.Statement.{statement}
+use Rattle.locking.proofs.older.Tie as tie
 
 below-requires : tie.Need-below-requires
 below-requires c κs = search needs

@@ -7,8 +7,8 @@ use Rattle.items.proofs.First.{Passed, passed-none, passed-one, stopped, passed
 use Rattle.counters.specs.Counters.{laterNumber}
 use Rattle.board.specs.Rules.{shares}
 use Rattle.board.proofs.Validated.{stale-at, shares-at}
-use Rattle.answering.proofs.validation.first_stale.Statement.{statement}
-use Rattle.answering.proofs.validation.first_stale.Tie as tie
+use Rattle.ending.proofs.validation.first_stale.Statement.{statement}
+use Rattle.ending.proofs.validation.first_stale.Tie as tie
 
 abbrev Inv-loop : tie.InvT-loop
 Inv-loop sets read start span k₀ k = Passed span (λ j. shares sets read (start .0 + 1 + j)) k

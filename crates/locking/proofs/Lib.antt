@@ -1,0 +1,2 @@
+-- Search: the search for a holder, desk after desk.
+pub mod Search
