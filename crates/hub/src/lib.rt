@@ -1,7 +1,7 @@
 // The hub: a whole run over byte slices that a host lends, and one request at a time over a board that it keeps.
 use board::Board;
-use lent::refusals::minus;
-use lent::refusals::refusal;
+use lent::minus;
+use lent::refusal;
 use serving::host::open;
 use serving::host::tell;
 use serving::run::complete;

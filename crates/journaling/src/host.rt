@@ -1,7 +1,7 @@
 // What the exported calls over a host's board and journal do, with the board by value.
 use crate::run::serve;
 use journal::Journaled;
-use lent::opening::opening;
+use opening::opening;
 use records::room;
 use table::wrong;
 ghost use mathlib.Core.Path.{_≡_};

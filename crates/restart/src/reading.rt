@@ -1,5 +1,5 @@
 // Reading a journal: record by record, up to the first that does not fit the form or the order.
-use lent::opening::opening;
+use opening::opening;
 use pieces::eight;
 use records::room;
 use words::number;

@@ -1,7 +1,7 @@
 // What the exported calls over a host's board do, with the board by value.
 use crate::run::serve;
 use board::Board;
-use lent::opening::opening;
+use opening::opening;
 use table::wrong;
 ghost use mathlib.Core.Path.{_≡_};
 ghost use Rattle.board.specs.Reached.{Reached};

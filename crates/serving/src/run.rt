@@ -3,7 +3,7 @@ use crate::lending::next;
 use board::Board;
 use board::Stepped;
 use encoding::encode;
-use lent::opening::opening;
+use opening::opening;
 use pieces::eight;
 use pieces::put;
 use pieces::put_values;

@@ -3,8 +3,8 @@ use mathlib.Core.Path.{sym, _∙_}
 use native.Mathlib.Omega.{arith}
 use borrow.Author.Needs.{needs}
 use Rattle.lent.proofs.Refused.{refuses-10, refuses-11, refuses-14, refuses-12, refuses-13, refuses-none}
-use Rattle.lent.proofs.refusals.refusal.Statement.{statement}
-use Rattle.lent.proofs.refusals.refusal.Tie as tie
+use Rattle.lent.proofs.refusal.Statement.{statement}
+use Rattle.lent.proofs.refusal.Tie as tie
 
 wrong-requires : tie.Need-wrong-requires
 wrong-requires c κs = search needs

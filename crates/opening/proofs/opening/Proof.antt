@@ -5,8 +5,8 @@ use lib.ListN.{replicate}
 use Rattle.items.specs.Items.{none}
 use Rattle.counters.specs.Counters.{noAge, noNumber}
 use Rattle.board.specs.Opening.{opening}
-use Rattle.lent.proofs.opening.opening.Statement.{statement}
-use Rattle.lent.proofs.opening.opening.Tie as tie
+use Rattle.opening.proofs.opening.Statement.{statement}
+use Rattle.opening.proofs.opening.Tie as tie
 
 column-requires : tie.Need-column-requires
 column-requires c κs = search needs

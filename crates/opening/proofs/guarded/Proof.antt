@@ -9,8 +9,8 @@ use borrow.Author.Tests.{ne-eqb}
 use lib.Dec.{eqb}
 use Rattle.table.specs.Table.{kindAt}
 use Rattle.board.specs.Opening.{gathered}
-use Rattle.lent.proofs.opening.guarded.Statement.{statement}
-use Rattle.lent.proofs.opening.guarded.Tie as tie
+use Rattle.opening.proofs.guarded.Statement.{statement}
+use Rattle.opening.proofs.guarded.Tie as tie
 
 abbrev Inv-loop : tie.InvT-loop
 Inv-loop table set₀ i₀ set i = (i ≤ 64) × (set ≡ gathered (λ j. eqb (kindAt table j) 1) i)

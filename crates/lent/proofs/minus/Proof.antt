@@ -7,8 +7,8 @@ use lib.IntN.{ℤ, pos, negℤ, _-ℤ_, +ℤ-idl}
 use mir.Syntax.{w64}
 use mir.Val.{toZ, ofZ, SFits}
 use mir.Facts.{toZ-pos, toZ-ofZ}
-use Rattle.lent.proofs.refusals.minus.Statement.{statement}
-use Rattle.lent.proofs.refusals.minus.Tie as tie
+use Rattle.lent.proofs.minus.Statement.{statement}
+use Rattle.lent.proofs.minus.Tie as tie
 
 less : (n : ℕ) → n < 256 → pos 0 -ℤ toZ w64 n ≡ negℤ (pos n)
 less n h = ap (λ (z : ℤ). pos 0 -ℤ z) (toZ-pos w64 {n = n} (omega arith)) ∙ +ℤ-idl (negℤ (pos n))

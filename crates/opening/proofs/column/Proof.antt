@@ -8,8 +8,8 @@ use borrow.Author.Needs.{needs}
 use lib.ListN.{replicate}
 use Rattle.words.specs.Bytes.{wordAt}
 use Rattle.board.specs.Rules.{filled}
-use Rattle.lent.proofs.opening.column.Statement.{statement}
-use Rattle.lent.proofs.opening.column.Tie as tie
+use Rattle.opening.proofs.column.Statement.{statement}
+use Rattle.opening.proofs.column.Tie as tie
 
 abbrev Inv-loop : tie.InvT-loop
 Inv-loop table at numbers₀ i₀ numbers i = (i ≤ 64) × (numbers ≡ filled (λ j. true) (λ j. wordAt table (16 * j + at)) i (replicate 64 0))
