@@ -1,6 +1,6 @@
 // The hub with a journal of its commits: a whole run, one request at a time over a board that a host keeps, and a restart from the journal.
+use fresh::open;
 use journal::Journaled;
-use journaling::host::open;
 use journaling::host::tell;
 use journaling::run::complete;
 use lent::minus;
@@ -10,7 +10,8 @@ ghost use mathlib.Core.Path.{_≡_};
 ghost use lib.ListN.{length};
 ghost use Rattle.journal.specs.Journal.{journalAfter};
 ghost use Rattle.journal.specs.Reached.{Reached};
-ghost use Rattle.journaling.specs.Run.{Outcome, outcome, openedBy, journalOpened, steppedBy};
+ghost use Rattle.fresh.specs.Fresh.{openedBy, journalOpened};
+ghost use Rattle.journaling.specs.Run.{Outcome, outcome, steppedBy};
 ghost use Rattle.restart.specs.Restart.{Restarted, restarted};
 
 // A whole run with a journal: as hub_run, and each commit's records stand in the journal. A refused run leaves the journal as it is.

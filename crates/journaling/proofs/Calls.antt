@@ -14,7 +14,8 @@ use Rattle.lent.proofs.Refused.{refuses-none, completed-run}
 use Rattle.lent.proofs.Served.{written-served, eight-long}
 use Rattle.pieces.proofs.Eights.{inOne-length, apart}
 use Rattle.journal.specs.Journal.{opened, next, reply}
-use Rattle.journaling.specs.Run.{told, completed, outcome, openedBy, journalOpened, steppedBy}
+use Rattle.fresh.specs.Fresh.{openedBy, journalOpened}
+use Rattle.journaling.specs.Run.{told, completed, outcome, steppedBy}
 use Rattle.journaling.specs.Calls.{OpenReaches, OpenKeeps, StepKeeps, CallsAreRun}
 use Rattle.journal.specs.declared.Journaled.{Journaled}
 use Rattle.journal.proofs.Kept.{reached-fresh, reached-call}

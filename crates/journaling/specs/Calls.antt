@@ -13,7 +13,8 @@ use Rattle.pieces.specs.Pieces.{inOne, fourEach}
 use Rattle.lent.specs.Served.{written}
 use Rattle.journal.specs.Journal.{journalAfter, Ledger}
 use Rattle.journal.specs.Reached.{Reached}
-use Rattle.journaling.specs.Run.{told, outcome, openedBy, journalOpened, steppedBy}
+use Rattle.fresh.specs.Fresh.{openedBy, journalOpened}
+use Rattle.journaling.specs.Run.{told, outcome, steppedBy}
 use Rattle.journal.specs.declared.Journaled.{Journaled}
 
 -- the board and the journal that a call of hub_step_journal leaves

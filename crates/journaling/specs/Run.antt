@@ -1,19 +1,16 @@
 -- What a run with a journal returns and what it leaves in the three buffers; and one request at a time over a board that a host keeps.
 use Prim.Native.Nat.{ℕ, _*_}
-use mathlib.Core.Bool.{cond}
 use mathlib.Core.List.{List, _++_}
-use lib.IntN.{ℤ, pos, negℤ}
+use lib.IntN.{ℤ, pos}
 use lib.ListN.{length, drop}
 use Rattle.runs.specs.Runs.{after}
 use Rattle.words.specs.Bytes.{byte}
 use Rattle.wire.specs.Answers.{encode}
-use Rattle.table.specs.Table.{wrong}
 use Rattle.pieces.specs.Pieces.{eightsIn, fourEach}
 use Rattle.lent.specs.Served.{served}
 use Rattle.lent.specs.Refusals.{refusal, unless}
-use Rattle.journal.specs.Journal.{step, fresh, cleared, Ledger, opened, next, reply}
+use Rattle.journal.specs.Journal.{step, Ledger, opened, next, reply}
 use Rattle.journal.specs.declared.Journaled.{Journaled}
-use Rattle.journaling.specs.declared.host.Opened.{Opened}
 use Rattle.journaling.specs.declared.host.Told.{Told}
 
 -- ---- a whole run: the table t, the requests q, and what the buffers of the answers, the values and the journal held, a, v and j
@@ -35,14 +32,6 @@ outcome t q a v j =
     unless (refusal t (length q) (length a) (length v)) (λ z. told z a v j) (completed (opened t j) (eightsIn q) a v)
 
 -- ---- one request at a time, over a board that a host keeps
-
--- 0 and a fresh board; or minus the number of the refusal, and the board as it was
-unfoldable pub openedBy : Journaled → List ℕ → Opened
-openedBy s t = cond (wrong t) (record { board = s; code = negℤ (pos 10) }) (record { board = fresh t; code = pos 0 })
-
--- the journal j then
-unfoldable pub journalOpened : List ℕ → List ℕ → List ℕ
-journalOpened t j = cond (wrong t) j (cleared j)
 
 -- the board after a request over a journal of length n, and the 12 bytes of its answer
 unfoldable pub steppedBy : Journaled → ℕ → List ℕ → Told

@@ -1,6 +1,6 @@
 // A whole run with a journal.
-use crate::host::fresh;
 use encoding::encode;
+use fresh::fresh;
 use journal::Journaled;
 use journal::Stepped;
 use journal::step;

@@ -40,17 +40,17 @@ use denote.Triple.Clauses.{ensured, lasts}
 use denote.Triple.Table.{entered, cited}
 use denote.Triple.Walked.{says, Stays, stay-ref, stay-dropped, gave-slice, walkOf, goes-ref, goes-dropped, goes-gave-slice, Walks, ends-at, walked, walk-meets}
 use denote.Exit.{yes}
-use Rattle.journaling.specs.Run.{openedBy, journalOpened}
+use Rattle.fresh.specs.Fresh.{openedBy, journalOpened}
 use Rattle.journal.specs.declared.Journaled.{Journaled}
-use Rattle.journaling.specs.declared.host.Opened.{Opened}
+use Rattle.fresh.specs.declared.Opened.{Opened}
 use Rattle.journal.proofs.Journaled as J
 use Rattle.journal.proofs.Journaled.Laws as J′
-use Rattle.journaling.proofs.host.Opened as O
-use Rattle.journaling.proofs.host.Opened.Laws as O′
-use Rattle.journaling.proofs.host.open as open-fn
-use Rattle.journaling.proofs.host.open.Symbol as open-def
-use Rattle.journaling.proofs.host.open.Symbol.{name as #journaling·open}
-use Rattle.journaling.proofs.host.open.Met as open-thm
+use Rattle.fresh.proofs.Opened as O
+use Rattle.fresh.proofs.Opened.Laws as O′
+use Rattle.fresh.proofs.open as open-fn
+use Rattle.fresh.proofs.open.Symbol as open-def
+use Rattle.fresh.proofs.open.Symbol.{name as #fresh·open}
+use Rattle.fresh.proofs.open.Met as open-thm
 use Rattle.hub_journal.proofs.Journal.{journaled-vals}
 use Rattle.hub_journal.proofs.hub_open_journal.Key.{name as #hub_journal·hub-open-journal}
 use Rattle.hub_journal.proofs.hub_open_journal as hub-open-journal
@@ -118,7 +118,7 @@ module _ {M : Type 1} (𝓤 : URA M) (H : Heap 𝓤) (A : Atoms 𝓤) (W : Given
         nothing ! $ move ! (3 ∷ 0 ∷ []) $ fjoin ! $ nothing ! $ fjoin ! $ move ! (1 ∷ 2 ∷ []) $ feqI ! (List Val) (vptr b₀ o₀ ∷ []) (vptr b₀ o₀ ∷ []) refl $ fjoin3 ! $ fjoin ! $
         owned ! i64 (Is i64) (sint-makes 𝓤 H A W w64) (r .code) _ is-c $ move ! (1 ∷ 0 ∷ []) $ done !
 
-    module _ (C : Calls 𝓤 H) (Λ : Loops 𝓤 H) (fm : FmC 𝓤 H (W .laws) C) (known : Triple 𝓤 (C #journaling·open) Open) where
+    module _ (C : Calls 𝓤 H) (Λ : Loops 𝓤 H) (fm : FmC 𝓤 H (W .laws) C) (known : Triple 𝓤 (C #fresh·open) Open) where
       walk : ent 𝓤 (onEntry 𝓤 H A hub-open-journal.signature (κ₀, (κ₁, (κ₂, tt))) (q₀, (q₁, (q₂, tt))) x at) (WpFn 𝓤 H C Λ code.function (vptr b₀ o₀ ∷ only (slice-vals t) ∷ sliceVal (b₂, o₂) (length ys) ∷ []) Post)
       walk =
           qed W ((‵ (flft κ₀ q₀) ⊛ ‵ (flft κ₁ q₁) ⊛ ‵ (flft κ₂ q₂) ⊛ ‵ ftrue) ∷ ‵ (owns (MutRef (named 0) κ₀ J.the-row ∷ Table κ₁ ∷ MutSlice (named 2) κ₂ u8 ∷ []) x at) ∷ []) ∵
@@ -154,13 +154,13 @@ module _ {M : Type 1} (𝓤 : URA M) (H : Heap 𝓤) (A : Atoms 𝓤) (W : Given
           keep ! (0 ∷ 1 ∷ 2 ∷ 5 ∷ 3 ∷ 6 ∷ []) $ by ! (exits r (zs .1 .1 .0) e l (is-code r v is))))))))))))))))))
 
 module _ {M : Type 1} (𝓤 : URA M) (H : Heap 𝓤) (A : Atoms 𝓤) (W : Given 𝓤 H A) (mem : Memory → SProp 𝓤) (run : Routine → Fun 𝓤) where
-  hub-open-journal-walks : (C : Calls 𝓤 H) (Λ : Loops 𝓤 H) → FmC 𝓤 H (W .laws) C → Triple 𝓤 (C #journaling·open) (Open 𝓤 H A W mem run) → Walks 𝓤 H A hub-open-journal.ended stayed (WpFn 𝓤 H C Λ code.function) (hub-open-journal.clauses 𝓤 H A mem run)
+  hub-open-journal-walks : (C : Calls 𝓤 H) (Λ : Loops 𝓤 H) → FmC 𝓤 H (W .laws) C → Triple 𝓤 (C #fresh·open) (Open 𝓤 H A W mem run) → Walks 𝓤 H A hub-open-journal.ended stayed (WpFn 𝓤 H C Λ code.function) (hub-open-journal.clauses 𝓤 H A mem run)
   hub-open-journal-walks C Λ fm known = walked 𝓤 H A hub-open-journal.ended stayed (hub-open-journal.clauses 𝓤 H A mem run) (WpFn 𝓤 H C Λ code.function)
       (λ κs. (ptr-vals, (slice-vals, (slice-vals, tt)))) (λ κs. (mut-tells (named 0) (κs .0) J.the-row, (shr-slice-tells (named 1) (κs .1 .0) u8, (mut-slice-tells (named 2) (κs .1 .1 .0) u8, tt))))
       (λ κs qs bounds a g are. via 𝓤 _ (fst∗ 𝓤 _ (hub-open-journal.clauses 𝓤 H A mem run κs a .requires g)) (walk 𝓤 H A W mem run (κs .0) (κs .1 .0) (κs .1 .1 .0) (qs .0) (qs .1 .0) (qs .1 .1 .0) (a .0 .ptr .0) (a .0 .ptr .1) (a .0 .name) (a .0 .now) (a .1 .0) (are .1 .0)
       (a .1 .1 .0 .ptr .0) (a .1 .1 .0 .ptr .1) (a .1 .1 .0 .name) (a .1 .1 .0 .now) (are .1 .1 .0 .0 .1) C Λ fm known))
 
-hub-open-journal-meets : {M : Type 1} (𝓤 : URA M) (H : Heap 𝓤) (A : Atoms 𝓤) (W : Given 𝓤 H A) (mem : Memory → SProp 𝓤) (run : Routine → Fun 𝓤) (𝓣 : Tables 𝓤 H) → Triple 𝓤 (𝓣 .C #journaling·open) (Open 𝓤 H A W mem run)
+hub-open-journal-meets : {M : Type 1} (𝓤 : URA M) (H : Heap 𝓤) (A : Atoms 𝓤) (W : Given 𝓤 H A) (mem : Memory → SProp 𝓤) (run : Routine → Fun 𝓤) (𝓣 : Tables 𝓤 H) → Triple 𝓤 (𝓣 .C #fresh·open) (Open 𝓤 H A W mem run)
     → Meets 𝓤 H A hub-open-journal.signature (WpFn 𝓤 H (𝓣 .C) (𝓣 .Λ) code.function) (hub-open-journal.spec 𝓤 H A mem run)
 hub-open-journal-meets 𝓤 H A W mem run 𝓣 known =
     walk-meets 𝓤 H A hub-open-journal.ended stayed W
@@ -173,4 +173,4 @@ hub-open-journal-spec 𝓤 H 𝓜 𝓖 𝓡 =
     entered 𝓤 H (tripleOf 𝓤 H (𝓖 .A) hub-open-journal.signature (hub-open-journal.spec 𝓤 H (𝓖 .A) (𝓜 .mem) (𝓡 .run)))
     (tables 𝓤 H 𝓜 𝓡 code.env .C) (tables 𝓤 H 𝓜 𝓡 code.env .Λ) #hub_journal·hub-open-journal code.function (code.unfolded 𝓤 H 𝓜 𝓡)
     (hub-open-journal-meets 𝓤 H (𝓖 .A) (givenOf 𝓤 H 𝓜 𝓖) (𝓜 .mem) (𝓡 .run) (tablesOf 𝓤 H 𝓜 (tables 𝓤 H 𝓜 𝓡 code.env))
-    (cited 𝓤 H (Open 𝓤 H (𝓖 .A) (givenOf 𝓤 H 𝓜 𝓖) (𝓜 .mem) (𝓡 .run)) 𝓜 𝓡 code.env #journaling·open open-def.routine code.calls-journaling·host·open (open-thm.met 𝓤 H 𝓜 𝓖 𝓡)))
+    (cited 𝓤 H (Open 𝓤 H (𝓖 .A) (givenOf 𝓤 H 𝓜 𝓖) (𝓜 .mem) (𝓡 .run)) 𝓜 𝓡 code.env #fresh·open open-def.routine code.calls-fresh·open (open-thm.met 𝓤 H 𝓜 𝓖 𝓡)))

@@ -1,8 +1,8 @@
 -- A right table is 1,024 bytes long; the callees say the rest.
 use borrow.Author.Needs.{needs}
 use Rattle.table.proofs.Rows.{right-long}
-use Rattle.journaling.proofs.host.fresh.Statement.{statement}
-use Rattle.journaling.proofs.host.fresh.Tie as tie
+use Rattle.fresh.proofs.fresh.Statement.{statement}
+use Rattle.fresh.proofs.fresh.Tie as tie
 
 clear-requires : tie.Need-clear-requires
 clear-requires c κs = search needs

@@ -2,9 +2,9 @@
 use mathlib.Core.Path.{sym, _∙_}
 use borrow.Author.Needs.{needs}
 use lib.IntN.{pos}
-use Rattle.journaling.specs.Run.{openedBy, journalOpened}
-use Rattle.journaling.proofs.host.open.Statement.{statement}
-use Rattle.journaling.proofs.host.open.Tie as tie
+use Rattle.fresh.specs.Fresh.{openedBy, journalOpened}
+use Rattle.fresh.proofs.open.Statement.{statement}
+use Rattle.fresh.proofs.open.Tie as tie
 
 wrong-requires : tie.Need-wrong-requires
 wrong-requires c κs = search needs

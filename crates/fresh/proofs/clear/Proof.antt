@@ -9,8 +9,8 @@ use lib.Seq.{drop-cons, set-at}
 use Rattle.records.specs.Records.{room}
 use Rattle.records.proofs.Sizes.{room-within}
 use borrow.Author.Needs.{needs}
-use Rattle.journaling.proofs.host.clear.Statement.{statement}
-use Rattle.journaling.proofs.host.clear.Tie as tie
+use Rattle.fresh.proofs.clear.Statement.{statement}
+use Rattle.fresh.proofs.clear.Tie as tie
 
 zero-last : (i : ℕ) (l : List ℕ) → replicate i 0 ++ 0 ∷ l ≡ replicate (suc i) 0 ++ l
 zero-last zero l = refl
