@@ -19,7 +19,7 @@ is-empty-requires : tie.Need-is-empty-requires
 is-empty-requires c κs = search needs
 
 returns : tie.Need-returns
-returns c = cc
+returns c = rw (c .is-empty .ensures, c .before .common .ensures, c .before .before .before .place .ensures)
 
 pub shares-spec : {M : Type 1} → statement M
 shares-spec =

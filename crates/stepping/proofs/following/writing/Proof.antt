@@ -16,7 +16,7 @@ element-write-after : tie.Need-element-write-after
 element-write-after c = search needs
 
 returns : tie.Need-returns
-returns c = cc
+returns c = rw (c .before .without .ensures, c .with .ensures)
 
 pub writing-spec : {M : Type 1} → statement M
 writing-spec =
