@@ -1,4 +1,5 @@
--- Each way out is a law of Fitting.
+-- Each way out is a law of Fitting, handed what the tests before it left: `zeroed` is the place after the second test, `numbered` the one
+-- after the third.
 use native.Mathlib.Omega.{arith}
 use borrow.Author.Needs.{needs}
 use Rattle.restart.proofs.Fitting.{no-closing, not-zero, not-closed, by-count}
@@ -9,13 +10,13 @@ array-read-if1 : tie.Need-array-read-if1
 array-read-if1 c = search needs
 
 returns : tie.Need-returns
-returns c = no-closing _ _ (omega arith)
+returns c = no-closing _ _ (c .if1 .taken)
 
 array-read-if2 : tie.Need-array-read-if2
 array-read-if2 c = search needs
 
 returns-2 : tie.Need-returns-2
-returns-2 c = not-zero _ _ (omega arith) (omega arith)
+returns-2 c = not-zero _ _ (c .before .if1 .left) (c .if2 .taken)
 
 array-read-number : tie.Need-array-read-number
 array-read-number c = search needs
@@ -27,10 +28,12 @@ number-requires : tie.Need-number-requires
 number-requires c κs = search needs
 
 add-if3 : tie.Need-add-if3
-add-if3 c = search needs
+add-if3 c = omega (arith, c .before .before .before .before .pre)
 
 returns-3 : tie.Need-returns-3
-returns-3 c = not-closed _ _ (omega arith) (omega arith) (omega arith)
+returns-3 c =
+    let zeroed = c .before .before .before in
+    not-closed _ _ (zeroed .before .if1 .left) (zeroed .if2 .left) (omega (arith, c .before .before .number .ensures, c .if3 .taken))
 
 array-read-number-3 : tie.Need-array-read-number-3
 array-read-number-3 c = search needs
@@ -48,7 +51,15 @@ number-requires-2 : tie.Need-number-requires-2
 number-requires-2 c κs = search needs
 
 returns-4 : tie.Need-returns-4
-returns-4 c = by-count _ _ (omega arith) (omega arith) (omega arith) (c .before .number2 .result) (omega arith)
+returns-4 c =
+    let numbered = c .before .before in
+    let zeroed = numbered .before .before .before in
+    by-count _ _
+    (zeroed .before .if1 .left)
+    (zeroed .if2 .left)
+    (omega (arith, numbered .before .before .number .ensures, numbered .if3 .left))
+    (c .before .number2 .result)
+    (omega (arith, c .before .number2 .ensures))
 
 pub fits-closing-spec : {M : Type 1} → statement M
 fits-closing-spec =

@@ -37,12 +37,12 @@ cast-after c = search needs
 mul-after : tie.Need-mul-after
 mul-after c =
     let fits = fitting _ _ _ (sym (c .before .before .fits-item .ensures) ∙ c .before .if2 .taken) in
-    record { fits = omega arith }
+    omega (arith, fits .below)
 
 element-write-after : tie.Need-element-write-after
 element-write-after c =
     let fits = fitting _ _ _ (sym (c .before .before .fits-item .ensures) ∙ c .before .if2 .taken) in
-    omega arith
+    omega (arith, fits .below)
 
 add-after : tie.Need-add-after
 add-after c = search needs
@@ -50,7 +50,7 @@ add-after c = search needs
 add-after-2 : tie.Need-add-after-2
 add-after-2 c =
     let fits = fitting _ _ _ (sym (c .before .before .before .fits-item .ensures) ∙ c .before .before .if2 .taken) in
-    record { fits = omega arith }
+    omega (arith, fits .below)
 
 returns-2 : tie.Need-returns-2
 returns-2 c =
