@@ -64,12 +64,6 @@ Table κ = ShrSlice (named 1) κ u8
 parts : (r : Opened) (v : Val) → Is O.the-row r (v ∷ []) → v ≡ vstruct (vcons (only (board-vals (r .board))) (vcons (only (sint-vals w64 (r .code))) vnil))
 parts r v is = ap only (LL.tells O.the-type O′.the-laws r (v ∷ []) is)
 
-is-board : (r : Opened) (v : Val) → Is O.the-row r (v ∷ []) → Is B.the-row (r .board) (board-vals (r .board))
-is-board r v is = LL.owed O.the-type O′.the-laws r _ is .0
-
-is-code : (r : Opened) (v : Val) → Is O.the-row r (v ∷ []) → Is i64 (r .code) (sint-vals w64 (r .code))
-is-code r v is = LL.owed O.the-type O′.the-laws r _ is .1 .0
-
 abbrev stayed : Stays (hub-open.ended .signature .params) (hub-open.ended .kept)
 stayed = (stay-ref (0 ∷ []) tt (plain (λ _. B.the-row)), (stay-dropped (shrSliceOf (1 ∷ []) tt (plain (λ _. u8))) yes, tt))
 
@@ -128,17 +122,17 @@ module _ {M : Type 1} (𝓤 : URA M) (H : Heap 𝓤) (A : Atoms 𝓤) (W : Given
           calls-at ! fm Open known to-open (and-then ! (load ! (from ! (stop !)) (look ! 5 refl)) (and-then ! (load ! (from ! (stop !)) (look ! 9 refl)) (no-more !))) (λ v.
           use1 W (later (some (λ (r : Opened). ((‵ (flft κ₁ q₁) ⊛ ‵ ftrue) ⊛ ‵ (O.the-row .own r (v ∷ []))) ⊛ raw (ensured 𝓤 H A open-fn.ended (open-fn.clauses 𝓤 H A at-mem run) (κ₁, tt) (h, (t, tt)) tt r)))) (id⊢ 𝓤 _) $ await ! tt $ pick ! (λ r.
           split ! $ move ! (1 ∷ []) $ use1 W (raw (fact 𝓤 (r ≡ openedBy h (t .now)))) (gave κ₁ h t r) $ heard ! (r ≡ openedBy h (t .now)) (λ e. split ! $ split ! $ move ! (1 ∷ []) $ drop ! $ move ! (1 ∷ []) $
-          peeks ! O.the-row (Is O.the-row) (shows 𝓤 H A O.the-row) r (v ∷ []) (λ is.
+          peeks ! O.the-row (Is O.the-row) (shows 𝓤 H A O.the-row) r (v ∷ []) (λ is. let owed = LL.owed O.the-type O′.the-laws r _ is in
           -- [what `open` returned owns; the table's token; the board's cell at 2; the open borrow; obs; auth; _4 at 6; …; _3 at 8; …; _2 at 10; …; _1 at 12; …; room for _0 at 14; …]
           land ! (from ! (stop !)) (init ! 8 refl (LL.lawful O.the-type O′.the-laws 𝓤 H A W .typed r _ is .0)) $ rewrite ! 8 (λ (u : Val). ‵ (fat fullShare O′.mir l₃ 0 u)) (parts r v is) refl $
-          assigns ! (of-opd ! (load ! (from ! (fld ! refl (stop !))) (look-in ! 8 (sub ! 0 refl (whole !))))) (from ! (hop ! (look ! 12 refl) (stop !))) (store-raw ! 2 refl (LL.lawful B.the-type B′.the-laws 𝓤 H A W .typed (r .board) _ (is-board r v is) .0)) $
-          assigns ! (of-opd ! (load ! (from ! (fld ! refl (stop !))) (look-in ! 8 (sub ! 1 refl (whole !))))) (from ! (stop !)) (init ! 14 refl (sint-lawful 𝓤 H A W w64 .typed (r .code) _ (is-code r v is) .0)) $
+          assigns ! (of-opd ! (load ! (from ! (fld ! refl (stop !))) (look-in ! 8 (sub ! 0 refl (whole !))))) (from ! (hop ! (look ! 12 refl) (stop !))) (store-raw ! 2 refl (LL.lawful B.the-type B′.the-laws 𝓤 H A W .typed (r .board) _ (owed .0) .0)) $
+          assigns ! (of-opd ! (load ! (from ! (fld ! refl (stop !))) (look-in ! 8 (sub ! 1 refl (whole !))))) (from ! (stop !)) (init ! 14 refl (sint-lawful 𝓤 H A W w64 .typed (r .code) _ (owed .1 .0) .0)) $
           -- the borrow is closed at the new board
-          drop ! $ owned ! B.the-row (Is B.the-row) (LL.makes B.the-type B′.the-plain 𝓤 H A) (r .board) _ (is-board r v is) $ move ! (2 ∷ 0 ∷ 3 ∷ 4 ∷ 5 ∷ []) $ closes ! tt B.the-row (r .board) (board-vals (r .board)) b₀ o₀ $
+          drop ! $ owned ! B.the-row (Is B.the-row) (LL.makes B.the-type B′.the-plain 𝓤 H A) (r .board) _ (owed .0) $ move ! (2 ∷ 0 ∷ 3 ∷ 4 ∷ 5 ∷ []) $ closes ! tt B.the-row (r .board) (board-vals (r .board)) b₀ o₀ $
           -- [obs; the borrow; its token; the table's token; _4 at 4; …; room for _0 at 12; …]
           returns ! (look ! 12 refl) $ forget ! 4 refl $ forget ! 6 refl $ forget ! 8 refl $ forget ! 10 refl $ forget ! 12 refl $
           move ! (12 ∷ 13 ∷ []) $ free1 ! $ move ! (10 ∷ 11 ∷ []) $ free1 ! $ move ! (8 ∷ 9 ∷ []) $ free1 ! $ move ! (6 ∷ 7 ∷ []) $ free1 ! $ move ! (4 ∷ 5 ∷ []) $ free1 ! $ free0 ! $
-          keep ! (0 ∷ 1 ∷ 2 ∷ 3 ∷ []) $ by ! (exits r e (is-code r v is)))))))))))))
+          keep ! (0 ∷ 1 ∷ 2 ∷ 3 ∷ []) $ by ! (exits r e (owed .1 .0)))))))))))))
 
 module _ {M : Type 1} (𝓤 : URA M) (H : Heap 𝓤) (A : Atoms 𝓤) (W : Given 𝓤 H A) (mem : Memory → SProp 𝓤) (run : Routine → Fun 𝓤) where
   hub-open-walks : (C : Calls 𝓤 H) (Λ : Loops 𝓤 H) → FmC 𝓤 H (W .laws) C → Triple 𝓤 (C #serving·open) (Open 𝓤 H A W mem run) → Walks 𝓤 H A hub-open.ended stayed (WpFn 𝓤 H C Λ code.function) (hub-open.clauses 𝓤 H A mem run)

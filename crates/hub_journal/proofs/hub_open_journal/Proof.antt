@@ -65,12 +65,6 @@ Table κ = ShrSlice (named 1) κ u8
 parts : (r : Opened) (v : Val) → Is O.the-row r (v ∷ []) → v ≡ vstruct (vcons (only (journaled-vals (r .board))) (vcons (only (sint-vals w64 (r .code))) vnil))
 parts r v is = ap only (LL.tells O.the-type O′.the-laws r (v ∷ []) is)
 
-is-board : (r : Opened) (v : Val) → Is O.the-row r (v ∷ []) → Is J.the-row (r .board) (journaled-vals (r .board))
-is-board r v is = LL.owed O.the-type O′.the-laws r _ is .0
-
-is-code : (r : Opened) (v : Val) → Is O.the-row r (v ∷ []) → Is i64 (r .code) (sint-vals w64 (r .code))
-is-code r v is = LL.owed O.the-type O′.the-laws r _ is .1 .0
-
 -- the journal's borrow is given to `open` for good, and its last bytes are what `open` left
 abbrev stayed : Stays (hub-open-journal.ended .signature .params) (hub-open-journal.ended .kept)
 stayed = (stay-ref (0 ∷ []) tt (plain (λ _. J.the-row)), (stay-dropped (shrSliceOf (1 ∷ []) tt (plain (λ _. u8))) yes, (gave-slice (2 ∷ []) tt (plain (λ _. u8)), tt)))
@@ -142,16 +136,16 @@ module _ {M : Type 1} (𝓤 : URA M) (H : Heap 𝓤) (A : Atoms 𝓤) (W : Given
           -- [the journal's last bytes; …; the tokens and the result; the board's cell; …]
           move ! (2 ∷ []) $ split ! $ split ! $ move ! (1 ∷ []) $ split ! $ move ! (3 ∷ []) $
           -- [what `open` returned owns; κ₂; …; κ₁; the last bytes; …; the board's cell at 6; the open borrow; obs; auth; _7 at 10; …; _4 at 16; …; _1 at 22; …; room for _0 at 24; …]
-          peeks ! O.the-row (Is O.the-row) (shows 𝓤 H A O.the-row) r (v ∷ []) (λ is.
+          peeks ! O.the-row (Is O.the-row) (shows 𝓤 H A O.the-row) r (v ∷ []) (λ is. let owed = LL.owed O.the-type O′.the-laws r _ is in
           land ! (from ! (stop !)) (init ! 16 refl (LL.lawful O.the-type O′.the-laws 𝓤 H A W .typed r _ is .0)) $ rewrite ! 16 (λ (u : Val). ‵ (fat fullShare O′.mir l₄ 0 u)) (parts r v is) refl $
-          assigns ! (of-opd ! (load ! (from ! (fld ! refl (stop !))) (look-in ! 16 (sub ! 0 refl (whole !))))) (from ! (hop ! (look ! 22 refl) (stop !))) (store-raw ! 6 refl (LL.lawful J.the-type J′.the-laws 𝓤 H A W .typed (r .board) _ (is-board r v is) .0)) $
-          assigns ! (of-opd ! (load ! (from ! (fld ! refl (stop !))) (look-in ! 16 (sub ! 1 refl (whole !))))) (from ! (stop !)) (init ! 24 refl (sint-lawful 𝓤 H A W w64 .typed (r .code) _ (is-code r v is) .0)) $
+          assigns ! (of-opd ! (load ! (from ! (fld ! refl (stop !))) (look-in ! 16 (sub ! 0 refl (whole !))))) (from ! (hop ! (look ! 22 refl) (stop !))) (store-raw ! 6 refl (LL.lawful J.the-type J′.the-laws 𝓤 H A W .typed (r .board) _ (owed .0) .0)) $
+          assigns ! (of-opd ! (load ! (from ! (fld ! refl (stop !))) (look-in ! 16 (sub ! 1 refl (whole !))))) (from ! (stop !)) (init ! 24 refl (sint-lawful 𝓤 H A W w64 .typed (r .code) _ (owed .1 .0) .0)) $
           -- the borrow is closed at the new board
-          drop ! $ owned ! J.the-row (Is J.the-row) (LL.makes J.the-type J′.the-plain 𝓤 H A) (r .board) _ (is-board r v is) $ move ! (6 ∷ 0 ∷ 7 ∷ 8 ∷ 9 ∷ []) $ closes ! tt J.the-row (r .board) (journaled-vals (r .board)) b₀ o₀ $
+          drop ! $ owned ! J.the-row (Is J.the-row) (LL.makes J.the-type J′.the-plain 𝓤 H A) (r .board) _ (owed .0) $ move ! (6 ∷ 0 ∷ 7 ∷ 8 ∷ 9 ∷ []) $ closes ! tt J.the-row (r .board) (journaled-vals (r .board)) b₀ o₀ $
           -- [obs; the borrow; its token; κ₂; …; κ₁; the last bytes; …; _7 at 8; …; room for _0 at 22; …]
           returns ! (look ! 22 refl) $ forget ! 8 refl $ forget ! 10 refl $ forget ! 12 refl $ forget ! 14 refl $ forget ! 16 refl $ forget ! 18 refl $ forget ! 20 refl $ forget ! 22 refl $
           move ! (22 ∷ 23 ∷ []) $ free1 ! $ move ! (20 ∷ 21 ∷ []) $ free1 ! $ move ! (18 ∷ 19 ∷ []) $ free1 ! $ move ! (16 ∷ 17 ∷ []) $ free1 ! $ move ! (14 ∷ 15 ∷ []) $ free1 ! $ move ! (12 ∷ 13 ∷ []) $ free1 ! $ move ! (10 ∷ 11 ∷ []) $ free1 ! $ move ! (8 ∷ 9 ∷ []) $ free1 ! $ free0 ! $
-          keep ! (0 ∷ 1 ∷ 2 ∷ 5 ∷ 3 ∷ 6 ∷ []) $ by ! (exits r (zs .1 .1 .0) e l (is-code r v is))))))))))))))))))
+          keep ! (0 ∷ 1 ∷ 2 ∷ 5 ∷ 3 ∷ 6 ∷ []) $ by ! (exits r (zs .1 .1 .0) e l (owed .1 .0))))))))))))))))))
 
 module _ {M : Type 1} (𝓤 : URA M) (H : Heap 𝓤) (A : Atoms 𝓤) (W : Given 𝓤 H A) (mem : Memory → SProp 𝓤) (run : Routine → Fun 𝓤) where
   hub-open-journal-walks : (C : Calls 𝓤 H) (Λ : Loops 𝓤 H) → FmC 𝓤 H (W .laws) C → Triple 𝓤 (C #fresh·open) (Open 𝓤 H A W mem run) → Walks 𝓤 H A hub-open-journal.ended stayed (WpFn 𝓤 H C Λ code.function) (hub-open-journal.clauses 𝓤 H A mem run)
