@@ -62,7 +62,7 @@ returns c =
     let answers = at-serve .serve .ensures .1 ∙ ap (λ (l : Ledger). served next reply l (eightsIn q) ++ drop (12 * (length q / 8)) (a .answers .now)) began in
     let put : at-values .put-values .last .0 ≡ fourEach (at-serve .serve .result .board .values) ++ drop 256 (a .values .now) = at-values .put-values .ensures in
     let values = put ∙ ap (λ (l : Ledger). fourEach (l .kept .board .values) ++ drop 256 (a .values .now)) left in
-    rw (n, count) (λ i. told (pos (length q / 8)) (answers i) (values i) (left i .journal))
+    rw n (λ i. told (count i) (answers i) (values i) (left i .journal))
 
 pub complete-spec : {M : Type 1} → statement M
 complete-spec =

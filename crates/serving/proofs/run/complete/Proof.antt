@@ -60,8 +60,8 @@ returns c =
     let q = a .requests .now in
     let n : length (eightsIn q) ≡ length q / 8 = eightsOf-length q (length q / 8) in
     let count : toZ w64 (length q / 8) ≡ pos (length q / 8) = toZ-pos w64 (omega (arith, accepted _ _ _ _ (start .pre) .most)) in
-    rw (n, count)
-    (λ i. told (pos (length q / 8))
+    rw n
+    (λ i. told (count i)
     ((at-serve .serve .ensures .1 ∙ ap (λ (b : Board). served next reply b (eightsIn q) ++ drop (12 * (length q / 8)) (a .answers .now)) (at-opening .opening .ensures)) i)
     ((at-values .put-values .ensures ∙ ap (λ (b : Board). fourEach (b .values) ++ drop 256 (a .values .now))
     (at-serve .serve .ensures .0 ∙ ap (λ (b : Board). after next b (eightsIn q)) (at-opening .opening .ensures))) i))
