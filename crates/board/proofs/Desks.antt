@@ -12,7 +12,7 @@ use Rattle.items.proofs.Tests.{by-cond, by-equal, clash, or-left, or-right, or-
 use Rattle.items.proofs.Laws.{has-none, with-same, with-other, with-less, without-other}
 use Rattle.counters.specs.declared.Age.{Age}
 use Rattle.counters.specs.declared.Number.{Number}
-use Rattle.desks.specs.Desks.{idle, opened, beyond, deskIn, isOpen, copyOf}
+use Rattle.desks.specs.Desks.{blank, idle, beyond, deskIn, isOpen, ageless, copyOf}
 use Rattle.board.specs.Rules.{reading, writing}
 use Rattle.desks.specs.declared.Desk.{Desk}
 
@@ -26,7 +26,8 @@ pub record DeskSound (guarded : Items) (number : ℕ) (k : Desk) : Type 0 where
   pub room : length (k .copies) ≡ 64
   pub unwritten : (i : ℕ) → has (k .written) i ≡ false → copyOf k i ≡ 0
   pub unread : (i : ℕ) → has guarded i ≡ true → has (k .read) i ≡ false
-  pub closed : isOpen k ≡ false → k ≡ idle
+  pub closed : isOpen k ≡ false → k ≡ idle (k .age)
+  pub aged : isOpen k ≡ true → ageless k ≡ false
 
 -- m holds no guarded item that k has written
 abbrev pub Excludes : Items → Desk → Desk → Type 0
@@ -51,41 +52,27 @@ locks-set guarded desks locks d k hd new e f he hf n =
 
 -- ---- a desk that has done nothing
 
-pub record Blank (k : Desk) : Type 0 where
-  pub read : k .read ≡ none
-  pub shared : k .shared ≡ none
-  pub written : k .written ≡ none
-  pub copies : k .copies ≡ replicate 64 0
-
-pub idle-blank : Blank idle
-idle-blank = record { read = refl; shared = refl; written = refl; copies = refl }
-
-pub opened-blank : (a : Age) (s : Number) → Blank (opened a s)
-opened-blank a s = record { read = refl; shared = refl; written = refl; copies = refl }
-
 zeros : (n i : ℕ) → getD {A = ℕ} (replicate n 0) i 0 ≡ 0
 zeros zero i = refl
 zeros (suc n) zero = refl
 zeros (suc n) (suc i) = zeros n i
 
-module _ {k : Desk} (blank : Blank k) where
-  pub blank-written : (i : ℕ) → has (k .written) i ≡ false
-  blank-written i = rw (blank .written) (has-none i)
+module _ (o : ℕ) (a : Age) (s : Number) where
+  pub blank-excludes : (guarded : Items) (m : Desk) → Excludes guarded (blank o a s) m × Excludes guarded m (blank o a s)
+  blank-excludes guarded m = ((λ i g w. clash w (has-none i)), (λ i g w. or-both (has none i) (has none i) (has-none i) (has-none i)))
 
-  blank-holds : (i : ℕ) → holds k i ≡ false
-  blank-holds i = or-both (has (k .written) i) (has (k .shared) i) (blank-written i) (rw (blank .shared) (has-none i))
-
-  pub blank-excludes : (guarded : Items) (m : Desk) → Excludes guarded k m × Excludes guarded m k
-  blank-excludes guarded m = ((λ i g w. clash w (blank-written i)), (λ i g w. blank-holds i))
-
-  pub blank-sound : {guarded : Items} {number : ℕ} → k .start .0 ≤ number → (isOpen k ≡ false → k ≡ idle) → DeskSound guarded number k
-  blank-sound s c =
+  pub blank-sound :
+      {guarded : Items} {number : ℕ} → s .0 ≤ number
+      → (isOpen (blank o a s) ≡ false → blank o a s ≡ idle a) → (isOpen (blank o a s) ≡ true → ageless (blank o a s) ≡ false)
+      → DeskSound guarded number (blank o a s)
+  blank-sound started closed aged =
       record {
-        started = s;
-        room = rw (blank .copies);
-        unwritten = λ i w. rw (blank .copies) (zeros 64 i);
-        unread = λ i g. rw (blank .read) (has-none i);
-        closed = c;
+        started = started;
+        room = refl;
+        unwritten = λ i w. zeros 64 i;
+        unread = λ i g. has-none i;
+        closed = closed;
+        aged = aged;
       }
 
 -- ---- a read of item i
@@ -102,6 +89,7 @@ module _ (guarded : Items) (k : Desk) (i : ℕ) where
             by-cond (λ (s : Items). has s j ≡ false) (has guarded i) (λ t. ok .unread j g)
             (λ f. with-other (k .read) i j (λ q. clash g (rw q f)) ∙ ok .unread j g);
         closed = λ f. clash busy f;
+        aged = ok .aged;
       }
 
   -- item i is the one item that may be newly shared
@@ -126,6 +114,7 @@ module _ (guarded : Items) (k : Desk) (i v : ℕ) where
             ∙ ok .unwritten j (with-less (k .written) i j w);
         unread = ok .unread;
         closed = λ f. clash busy f;
+        aged = ok .aged;
       }
 
   -- nothing changes at another item

@@ -1,16 +1,15 @@
 -- What an answer tells of the board that gave it. Only this file and, in the crate demands, Due, Named and Seen look into how answers are decided.
 use mathlib.Core.Path.{_≡_, refl}
 use mathlib.Core.Logic.{_≢_}
-use mathlib.Core.Bool.{Bool, true, false, not}
+use mathlib.Core.Bool.{Bool, true, false, not, _&&_}
 use Prim.Native.Nat.{ℕ, _+_, _-_, _<_, _≤_, suc-le-suc}
 use native.Mathlib.Nat.{le-refl}
 use native.Mathlib.Omega.{arith}
-use borrow.Author.Tests.{eqb-true, leb-false, ltb-true, ltb-false, ne-eqb, not-false}
-use lib.Dec.{T, eqb, ltb}
+use borrow.Author.Tests.{eqb-true, ltb-true, ltb-false, ne-eqb, not-false}
+use lib.Dec.{T, eqb, ltb, leb}
 use Rattle.items.specs.Items.{has}
 use Rattle.items.proofs.Tests.{by-cond, clash, or-left}
 use Rattle.items.proofs.Laws.{empty-has, common-none}
-use Rattle.counters.specs.Counters.{nextAge}
 use Rattle.counters.specs.declared.Age.{Age}
 use Rattle.counters.specs.declared.Number.{Number}
 use Rattle.wire.specs.Requests.{deskOf}
@@ -21,8 +20,8 @@ use Rattle.wire.specs.declared.Decoded.the-variants.{Asked, Malformed}
 use Rattle.wire.specs.declared.Answer.{Answer}
 use Rattle.wire.specs.declared.Answer.the-variants.{Refused, Opened, Value, Stored, Wait, Committed, Abandoned, Aborted}
 use Rattle.wire.proofs.Checks.{Passed, numbered, all-passed}
-use Rattle.desks.specs.Desks.{conflicts, inTheWay, holder, locked, isOpen}
-use Rattle.board.specs.Rules.{seen, deskAt, isGuarded, checks, refusal, writeSet, firstStale, ended, granted, answered, answer}
+use Rattle.desks.specs.Desks.{conflicts, inTheWay, holder, locked, isOpen, ageless}
+use Rattle.board.specs.Rules.{seen, deskAt, isGuarded, checks, refusal, writeSet, firstStale, ended, ageFor, granted, answered, answer}
 use Rattle.desks.specs.declared.Desk.{Desk}
 use Rattle.board.specs.declared.Board.{Board}
 use Rattle.board.proofs.Desks.{holds}
@@ -34,11 +33,11 @@ use Rattle.board.proofs.Stale.{stale-before}
 abbrev pub Open : Board → ℕ → Type 0
 Open b d = isOpen (deskAt b d) ≡ true
 
--- opened: nothing was open, and the next age was left
+-- opened: nothing was open, and the desk kept an age or the next one was left
 pub record MayBegin (b : Board) (d : ℕ) (a : Age) (s : Number) : Type 0 where
   pub closed : isOpen (deskAt b d) ≡ false
-  pub left : b .age .0 < 2000
-  pub next : a ≡ nextAge (b .age)
+  pub left : (ageless (deskAt b d) && leb 2000 (b .age .0)) ≡ false
+  pub given : a ≡ ageFor (deskAt b d) (b .age)
   pub start : s ≡ b .number
 
 -- a value: the desk saw it, and no other desk has written the guarded item
@@ -143,7 +142,7 @@ pub checks-passed : (b : Board) (d : ℕ) (r : Request) → eqb (refusal b d r) 
 checks-passed b d r e = all-passed (checks b d r) (checks-numbered b d r) (eqb-true (refusal b d r) 0 e)
 
 granted-granted : (b : Board) (d : ℕ) (r : Request) → Passed (checks b d r) → Granted b d (granted b d r)
-granted-granted b d Begin p = record { closed = p .0; left = leb-false 2000 (b .age .0) (p .1 .0); next = refl; start = refl }
+granted-granted b d Begin p = record { closed = p .0; left = p .1 .0; given = refl; start = refl }
 granted-granted b d (Read i) p =
     let o : Open b d = is-open (deskAt b d) (p .0) in
     let low : i < 64 = low-item i (p .1 .0) in

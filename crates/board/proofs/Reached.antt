@@ -12,7 +12,7 @@ use Rattle.board.specs.Rules.{step, next}
 use Rattle.board.specs.Opening.{opening}
 use Rattle.board.specs.Reached.{Eights, Reached, Counted}
 use Rattle.board.specs.declared.Board.{Board}
-use Rattle.board.proofs.Seats.{openIn-some}
+use Rattle.board.proofs.Seats.{agedIn-some}
 use Rattle.board.proofs.Sound.{Sound, opening-sound, step-sound}
 
 pub run-sound : (t : List ℕ) (qs : List (List ℕ)) → Sound (after next (opening t) qs)
@@ -25,7 +25,7 @@ pub sound-counted : {b : Board} → Sound b → Counted b
 sound-counted {b} sound =
     record {
       started = λ d hd. sound .desks .each d hd .started;
-      ahead = λ d hd o. let some = openIn-some (b .desks) d in let one = rw o at some in omega (arith, sound .desks .counted);
+      ahead = λ d hd o. let some = agedIn-some (b .desks) d in let one = rw (sound .desks .each d hd .aged o) at some in omega (arith, sound .desks .counted);
       limit = sound .limit;
     }
 

@@ -1,4 +1,4 @@
--- The sixteen desks as a whole: what holds of each, of each two, and how many are open. One of them may change.
+-- The sixteen desks as a whole: what holds of each, of each two, and how many have an age. One of them may change.
 use mathlib.Core.Path.{_≡_, _∙_}
 use mathlib.Core.Logic.{_≢_}
 use mathlib.Core.Bool.{cond}
@@ -10,29 +10,29 @@ use lib.ListN.{set, length, length-set}
 use lib.Seq.{getD-set-same, getD-set-other}
 use Rattle.items.specs.declared.Items.{Items}
 use Rattle.items.proofs.Tests.{by-equal}
-use Rattle.desks.specs.Desks.{beyond, deskIn, isOpen}
+use Rattle.desks.specs.Desks.{beyond, deskIn, ageless}
 use Rattle.desks.specs.declared.Desk.{Desk}
 use Rattle.board.proofs.Desks.{DeskSound, Excludes, Locks, locks-set}
 use Rattle.desks.proofs.Ages.{AgesApart}
 
--- ---- how many desks are open
+-- ---- how many desks have an age, open or idle
 
 abbrev pub tally : Desk → ℕ
-tally k = cond (isOpen k) 1 0
+tally k = cond (ageless k) 0 1
 
-abbrev pub openIn : List Desk → ℕ
-openIn [] = 0
-openIn (k ∷ ks) = tally k + openIn ks
+abbrev pub agedIn : List Desk → ℕ
+agedIn [] = 0
+agedIn (k ∷ ks) = tally k + agedIn ks
 
-openIn-set : (ks : List Desk) (d : ℕ) (k : Desk) → d < length ks → openIn (set ks d k) + tally (deskIn ks d) ≡ openIn ks + tally k
-openIn-set [] d k h = absurd (omega arith)
-openIn-set (m ∷ ks) zero k h = omega arith
-openIn-set (m ∷ ks) (suc d) k h = let e = openIn-set ks d k (omega arith) in omega arith
+agedIn-set : (ks : List Desk) (d : ℕ) (k : Desk) → d < length ks → agedIn (set ks d k) + tally (deskIn ks d) ≡ agedIn ks + tally k
+agedIn-set [] d k h = absurd (omega arith)
+agedIn-set (m ∷ ks) zero k h = omega arith
+agedIn-set (m ∷ ks) (suc d) k h = let e = agedIn-set ks d k (omega arith) in omega arith
 
-pub openIn-some : (ks : List Desk) (d : ℕ) → tally (deskIn ks d) ≤ openIn ks
-openIn-some [] d = zero-le
-openIn-some (m ∷ ks) zero = omega arith
-openIn-some (m ∷ ks) (suc d) = let h = openIn-some ks d in omega arith
+pub agedIn-some : (ks : List Desk) (d : ℕ) → tally (deskIn ks d) ≤ agedIn ks
+agedIn-some [] d = zero-le
+agedIn-some (m ∷ ks) zero = omega arith
+agedIn-some (m ∷ ks) (suc d) = let h = agedIn-some ks d in omega arith
 
 -- ---- the desks
 
@@ -41,7 +41,7 @@ pub record DesksSound (guarded : Items) (number age : ℕ) (desks : List Desk) :
   pub sixteen : length desks ≡ 16
   pub each : (d : ℕ) → d < 16 → DeskSound guarded number (deskIn desks d)
   pub locks : Locks guarded desks
-  pub counted : number + openIn desks ≤ age
+  pub counted : number + agedIn desks ≤ age
   pub ages : AgesApart age desks
 
 -- one desk's record changes, and the counters may
@@ -61,7 +61,7 @@ seated {guarded} {number} {number′} {desks} ds d hd k ok apart later room ages
           by-equal e d (λ q. rw (q, getD-set-same desks d k beyond long) ok)
           (λ n. rw (getD-set-other desks d e k beyond n) (kept e (ds .each e he)));
       locks = locks-set guarded desks (ds .locks) d k long apart;
-      counted = let e = openIn-set desks d k long in omega (arith, ds .counted);
+      counted = let e = agedIn-set desks d k long in omega (arith, ds .counted);
       ages = ages;
     }
   where
@@ -71,4 +71,4 @@ seated {guarded} {number} {number′} {desks} ds d hd k ok apart later room ages
     kept : (e : ℕ) → DeskSound guarded number (deskIn desks e) → DeskSound guarded number′ (deskIn desks e)
     kept e old =
         record
-        { started = le-trans (old .started) later; room = old .room; unwritten = old .unwritten; unread = old .unread; closed = old .closed }
+        { started = le-trans (old .started) later; room = old .room; unwritten = old .unwritten; unread = old .unread; closed = old .closed; aged = old .aged }

@@ -1,4 +1,4 @@
--- Outline, "On either side of a line": P1 to P13, and the easy errors, as one table of inputs and results; and the worked example.
+-- Outline, "On either side of a line": P1 to P13, the easy errors and kept ages, as one table of inputs and results; and the worked example.
 -- Each row: requests to the example's board, and what the last of them is answered: code, item, reason, first and second number.
 use mathlib.Core.Path.{_≡_, refl}
 use mathlib.Core.List.{List, [], _∷_, _++_, map}
@@ -9,7 +9,7 @@ use Rattle.wire.specs.Answers.{fields}
 use Rattle.desks.specs.Desks.{idle}
 use Rattle.board.specs.Rules.{deskAt, next, reply}
 use Rattle.board.specs.Opening.{opening}
-use Rattle.board.specs.Example.{table, computing, begin, read, write, end}
+use Rattle.board.specs.Example.{table, computing, begin, read, write, end, abandon}
 
 pub record Case : Type 0 where
   pub requests : List (List ℕ)
@@ -51,6 +51,14 @@ cases =
     ∷ (begin 0 ∷ begin 1 ∷ write 1 1 1 ∷ end 1 ∷ read 0 1 ∷ end 0 ∷ [] gives 5 ∷ 0 ∷ 0 ∷ 2 ∷ 0 ∷ [])
     -- the copies of an aborted transaction are not there for the next one
     ∷ (begin 1 ∷ begin 0 ∷ write 0 0 115 ∷ write 1 1 1 ∷ read 0 1 ∷ begin 0 ∷ read 0 0 ∷ [] gives 2 ∷ 0 ∷ 0 ∷ 140 ∷ 0 ∷ [])
+    -- after an abort of each reason the desk begins with the age that it had: made to yield, overwritten, too old
+    ∷ (begin 1 ∷ begin 0 ∷ write 1 1 1 ∷ read 0 1 ∷ begin 0 ∷ [] gives 1 ∷ 0 ∷ 0 ∷ 2 ∷ 0 ∷ [])
+    ∷ (begin 0 ∷ begin 1 ∷ read 0 0 ∷ write 1 0 115 ∷ end 1 ∷ end 0 ∷ begin 0 ∷ [] gives 1 ∷ 0 ∷ 0 ∷ 1 ∷ 1 ∷ [])
+    ∷ (begin 0 ∷ read 0 0 ∷ commits 17 ++ (end 0 ∷ begin 0 ∷ []) gives 1 ∷ 0 ∷ 0 ∷ 1 ∷ 17 ∷ [])
+    -- after a commit or an abandon, or at another desk, with a new one
+    ∷ (begin 0 ∷ end 0 ∷ begin 0 ∷ [] gives 1 ∷ 0 ∷ 0 ∷ 2 ∷ 1 ∷ [])
+    ∷ (begin 0 ∷ abandon 0 ∷ begin 0 ∷ [] gives 1 ∷ 0 ∷ 0 ∷ 2 ∷ 0 ∷ [])
+    ∷ (begin 1 ∷ begin 0 ∷ write 1 1 1 ∷ read 0 1 ∷ begin 2 ∷ [] gives 1 ∷ 0 ∷ 0 ∷ 3 ∷ 0 ∷ [])
     ∷ []
 
 -- what the last of some requests is answered
@@ -66,8 +74,9 @@ pub as-given : map (λ c. last (shown (c .requests))) cases ≡ map (λ c. c .an
 unfolding computing
 as-given = refl
 
--- and an aborted transaction leaves its desk all zero
-pub aborted-idle : deskAt (after next (opening table) (begin 1 ∷ begin 0 ∷ write 0 0 115 ∷ write 1 1 1 ∷ read 0 1 ∷ [])) 0 ≡ idle
+-- and an aborted transaction leaves its desk all zero but for its age, 2
+pub aborted-idle :
+    deskAt (after next (opening table) (begin 1 ∷ begin 0 ∷ write 0 0 115 ∷ write 1 1 1 ∷ read 0 1 ∷ [])) 0 ≡ idle (record { 0 = 2 })
 unfolding computing
 aborted-idle = refl
 

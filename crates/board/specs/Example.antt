@@ -44,7 +44,7 @@ pub table-opens :
       age = noAge;
       number = noNumber;
       sets = replicate 16 none;
-      desks = replicate 16 idle;
+      desks = replicate 16 (idle noAge);
     }
 unfolding computing
 table-opens = refl

@@ -2,4 +2,5 @@ pub mod Rules
 pub mod Opening
 pub mod Example
 pub mod Cases
+pub mod Yielding
 pub mod Reached

@@ -23,7 +23,7 @@ gathered p (suc n) =
     let before = gathered p n in
     cond (p n) (with before n) before
 
--- nothing is given yet, nothing written, and every desk is idle
+-- nothing is given yet, nothing written, and every desk is idle and keeps no age
 unfoldable pub opening : List ℕ → Board
 opening t =
     record {
@@ -34,5 +34,5 @@ opening t =
       age = noAge;
       number = noNumber;
       sets = replicate 16 none;
-      desks = replicate 16 idle;
+      desks = replicate 16 (idle noAge);
     }

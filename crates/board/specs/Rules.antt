@@ -8,7 +8,7 @@ use lib.Dec.{eqb, ltb, leb}
 use Rattle.items.specs.First.{first}
 use Rattle.items.specs.Items.{none, has, with, without, common, empty, lowest}
 use Rattle.items.specs.declared.Items.{Items}
-use Rattle.counters.specs.Counters.{nextAge, nextNumber}
+use Rattle.counters.specs.Counters.{noAge, nextAge, nextNumber}
 use Rattle.counters.specs.declared.Age.{Age}
 use Rattle.counters.specs.declared.Number.{Number}
 use Rattle.wire.specs.Checks.{Check, _fails_, firstFailing}
@@ -20,7 +20,7 @@ use Rattle.wire.specs.declared.Decoded.the-variants.{Asked, Malformed}
 use Rattle.wire.specs.declared.Reason.the-variants.{Overwritten, TooOld}
 use Rattle.wire.specs.declared.Answer.{Answer}
 use Rattle.wire.specs.declared.Answer.the-variants.{Refused, Opened, Value, Stored, Wait, Committed, Abandoned, Aborted}
-use Rattle.desks.specs.Desks.{idle, opened, isOpen, copyOf, deskIn, eldest, locked}
+use Rattle.desks.specs.Desks.{idle, opened, isOpen, ageless, copyOf, deskIn, eldest, locked}
 use Rattle.desks.specs.declared.Desk.{Desk}
 use Rattle.board.specs.declared.Board.{Board}
 use Rattle.board.specs.declared.Stepped.{Stepped}
@@ -40,7 +40,7 @@ abbrev pub itemChecks : Desk → ℕ → List Check
 itemChecks k i = not (isOpen k) fails 5 ∷ ltb 63 i fails 6 ∷ []
 
 abbrev pub checks : Board → ℕ → Request → List Check
-checks b d Begin = isOpen (deskAt b d) fails 4 ∷ leb 2000 (b .age .0) fails 9 ∷ []
+checks b d Begin = isOpen (deskAt b d) fails 4 ∷ (ageless (deskAt b d) && leb 2000 (b .age .0)) fails 9 ∷ []
 checks b d (Read i) = itemChecks (deskAt b d) i
 checks b d (Write i v) =
     itemChecks (deskAt b d) i ++ (ltb v (getD (b .floors) i 0) fails 7 ∷ ltb (getD (b .ceilings) i 0) v fails 8 ∷ [])
@@ -77,6 +77,12 @@ ended sets n k =
     (cond (ltb (n .0) stale) commit
     (Aborted (Overwritten (lowest (common (writeSet sets stale) (k .read))) (record { 0 = stale })))))
 
+-- ---- the begin
+
+-- the age that the desk keeps from an abort, else the next one
+abbrev pub ageFor : Desk → Age → Age
+ageFor k last = cond (ageless k) (nextAge last) (k .age)
+
 -- ---- the answer
 
 -- the desk's own copy if it has written the item, else the board's value
@@ -84,7 +90,7 @@ abbrev pub seen : List ℕ → Desk → ℕ → ℕ
 seen values k i = cond (has (k .written) i) (copyOf k i) (getD values i 0)
 
 abbrev pub granted : Board → ℕ → Request → Answer
-granted b d Begin = Opened (nextAge (b .age)) (b .number)
+granted b d Begin = Opened (ageFor (deskAt b d) (b .age)) (b .number)
 granted b d (Read i) = locked (b .desks) (b .guarded) d i false (Value i (seen (b .values) (deskAt b d) i))
 granted b d (Write i v) = locked (b .desks) (b .guarded) d i true (Stored i)
 granted b d End = ended (b .sets) (b .number) (deskAt b d)
@@ -107,15 +113,20 @@ put b d k =
     record
     { values = b .values; floors = b .floors; ceilings = b .ceilings; guarded = b .guarded; age = b .age; number = b .number; sets = b .sets; desks = set (b .desks) d k }
 
+-- the last age given: a new age is above it, and one that was kept is not
+abbrev pub lastGiven : Age → Age → Age
+lastGiven last a = cond (ltb (last .0) (a .0)) a last
+
 abbrev pub begun : Board → ℕ → Age → Number → Board
 begun b d a s =
     record
-    { values = b .values; floors = b .floors; ceilings = b .ceilings; guarded = b .guarded; age = a; number = b .number; sets = b .sets; desks = set (b .desks) d (opened a s) }
+    { values = b .values; floors = b .floors; ceilings = b .ceilings; guarded = b .guarded; age = lastGiven (b .age) a; number = b .number; sets = b .sets; desks = set (b .desks) d (opened a s) }
 
 -- an open item joins the open-read set; a guarded one, which g tells, joins the shared set if the desk has not written it
 abbrev pub reading : Desk → ℕ → Bool → Desk
 reading k i g =
     record {
+      busy = k .busy;
       age = k .age;
       start = k .start;
       read = cond g (k .read) (with (k .read) i);
@@ -128,6 +139,7 @@ reading k i g =
 abbrev pub writing : Desk → ℕ → ℕ → Desk
 writing k i v =
     record {
+      busy = k .busy;
       age = k .age;
       start = k .start;
       read = k .read;
@@ -159,9 +171,10 @@ committed b d n =
       age = b .age;
       number = n;
       sets = set (b .sets) (n .0 % 16) (k .written);
-      desks = set (b .desks) d idle;
+      desks = set (b .desks) d (idle noAge);
     }
 
+-- an aborted desk keeps its age; one that has committed or abandoned does not
 unfoldable pub follow : Board → Decoded → Answer → Board
 follow b q (Refused n) = b
 follow b q (Opened a s) = begun b (deskOf q) a s
@@ -169,8 +182,8 @@ follow b q (Value i v) = put b (deskOf q) (reading (deskAt b (deskOf q)) i (isGu
 follow b q (Stored i) = put b (deskOf q) (writing (deskAt b (deskOf q)) i (valueOf q))
 follow b q (Wait i e) = b
 follow b q (Committed n) = committed b (deskOf q) n
-follow b q Abandoned = put b (deskOf q) idle
-follow b q (Aborted w) = put b (deskOf q) idle
+follow b q Abandoned = put b (deskOf q) (idle noAge)
+follow b q (Aborted w) = put b (deskOf q) (idle (deskAt b (deskOf q) .age))
 
 -- ---- one request
 

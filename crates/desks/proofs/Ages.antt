@@ -8,6 +8,7 @@ use native.Mathlib.Omega.{arith}
 use lib.ListN.{set, length, replicate}
 use lib.Seq.{getD-set-same, getD-set-other}
 use Rattle.items.proofs.Tests.{by-equal}
+use Rattle.counters.specs.Counters.{noAge}
 use Rattle.desks.specs.Desks.{idle, beyond, deskIn}
 use Rattle.desks.specs.declared.Desk.{Desk}
 
@@ -43,23 +44,23 @@ module _ {last : ℕ} {desks : List Desk} (ages : AgesApart last desks) (d : ℕ
             (λ m. rw (another e n, another f m) (ages .apart e f ne)));
       }
 
-  -- it is kept, or the desk is freed, or it is a new one
+  -- it is kept, or the desk has none any more, or it is a new one
   pub ages-kept : k .age .0 ≡ ageIn desks d → AgesApart last (set desks d k)
   ages-kept same =
       ages-set (le-refl last) (rw same (ages .given d)) (λ e n p. same ∙ ages .apart d e (λ q. n (sym q)) (sym same ∙ p))
 
-  pub ages-freed : k .age .0 ≡ 0 → AgesApart last (set desks d k)
-  ages-freed none = ages-set (le-refl last) (rw none zero-le) (λ e n p. none)
+  pub ages-dropped : k .age .0 ≡ 0 → AgesApart last (set desks d k)
+  ages-dropped none = ages-set (le-refl last) (rw none zero-le) (λ e n p. none)
 
   pub ages-begun : last < k .age .0 → AgesApart (k .age .0) (set desks d k)
   ages-begun new =
       ages-set (omega arith) (le-refl (k .age .0)) (λ e n p. let old = ages .given e in absurd (omega arith))
 
--- where nothing is open, at first
-no-age : (n d : ℕ) → ageIn (replicate n idle) d ≡ 0
+-- at first, where no desk has one
+no-age : (n d : ℕ) → ageIn (replicate n (idle noAge)) d ≡ 0
 no-age zero d = refl
 no-age (suc n) zero = refl
 no-age (suc n) (suc d) = no-age n d
 
-pub ages-none : (n : ℕ) → AgesApart 0 (replicate n idle)
+pub ages-none : (n : ℕ) → AgesApart 0 (replicate n (idle noAge))
 ages-none n = record { given = λ d. rw (no-age n d) (le-refl 0); apart = λ d e ne same. no-age n d }

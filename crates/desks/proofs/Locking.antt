@@ -12,6 +12,8 @@ use Rattle.items.specs.Items.{has}
 use Rattle.items.specs.declared.Items.{Items}
 use Rattle.items.proofs.Tests.{by-cond, by-equal, clash}
 use Rattle.items.proofs.Laws.{has-none}
+use Rattle.counters.specs.Counters.{noAge}
+use Rattle.counters.specs.declared.Age.{Age}
 use Rattle.wire.specs.declared.Reason.the-variants.{Yield}
 use Rattle.wire.specs.declared.Answer.{Answer}
 use Rattle.wire.specs.declared.Answer.the-variants.{Wait, Aborted}
@@ -19,35 +21,35 @@ use Rattle.desks.specs.Desks.{idle, beyond, deskIn, conflicts, inTheWay,
 use Rattle.desks.specs.declared.Desk.{Desk}
 use Rattle.desks.proofs.Eldest.{eldest-le, eldest-same, eldest-out}
 
-pub idle-clear : (i : ℕ) (w : Bool) → conflicts idle i w ≡ false
-idle-clear i w = rw (has-none i) (and-false w)
+pub idle-clear : (a : Age) (i : ℕ) (w : Bool) → conflicts (idle a) i w ≡ false
+idle-clear a i w = rw (has-none i) (and-false w)
 
 module _ (desks : List Desk) (guarded : Items) (d i : ℕ) (w : Bool) (low : d < length desks) (kind : has guarded i ≡ true) where
   others : List Desk
-  others = set desks d idle
+  others = set desks d (idle noAge)
 
-  itself : deskIn others d ≡ idle
+  itself : deskIn others d ≡ idle noAge
   unfolding others
-  itself = getD-set-same desks d idle beyond low
+  itself = getD-set-same desks d (idle noAge) beyond low
 
   another : (e : ℕ) → (e ≡ d → ⊥) → deskIn others e ≡ deskIn desks e
   unfolding others
-  another e n = getD-set-other desks d e idle beyond n
+  another e n = getD-set-other desks d e (idle noAge) beyond n
 
   test-same : (e : ℕ) → conflicts (deskIn others e) i w ≡ inTheWay desks guarded d i w e
   test-same e =
       by-equal e d
-      (λ q. rw (q, itself, idle-clear i w, kind, eq-eqb d d refl))
+      (λ q. rw (q, itself, idle-clear noAge i w, kind, eq-eqb d d refl))
       (λ n. rw (another e n, kind, ne-eqb e d n))
 
   age-same : (e : ℕ) → conflicts (deskIn others e) i w ≡ true → deskIn others e .age .0 ≡ deskIn desks e .age .0
   age-same e t =
       by-equal e d
-      (λ q. clash t (rw (q, itself) (idle-clear i w)))
+      (λ q. clash t (rw (q, itself) (idle-clear noAge i w)))
       (λ n. ap (λ (k : Desk). k .age .0) (another e n))
 
   pub holder-others :
-      eldest (λ e. conflicts (deskIn (set desks d idle) e) i w) (λ e. deskIn (set desks d idle) e .age .0) 16 ≡ holder desks guarded d i w
+      eldest (λ e. conflicts (deskIn (set desks d (idle noAge)) e) i w) (λ e. deskIn (set desks d (idle noAge)) e .age .0) 16 ≡ holder desks guarded d i w
   unfolding others
   holder-others =
       eldest-same (λ e. conflicts (deskIn others e) i w) (inTheWay desks guarded d i w) (λ e. deskIn others e .age .0) (λ e. deskIn desks e .age .0)

@@ -17,17 +17,25 @@ use Rattle.desks.specs.declared.Desk.{Desk}
 
 -- ---- records of a desk
 
--- a transaction just begun: nothing read, held or written
+-- nothing read, held or written
+abbrev pub blank : ℕ → Age → Number → Desk
+blank o a s = record { busy = o; age = a; start = s; read = none; shared = none; written = none; copies = replicate 64 0 }
+
+-- a transaction just begun
 abbrev pub opened : Age → Number → Desk
-opened a s = record { age = a; start = s; read = none; shared = none; written = none; copies = replicate 64 0 }
+opened a s = blank 1 a s
 
--- a desk with nothing open: all of it at zero or empty
-abbrev pub idle : Desk
-idle = opened noAge noNumber
+-- a desk with nothing open: all of it at zero or empty, but for an age a that it keeps from an abort; noAge where it keeps none
+abbrev pub idle : Age → Desk
+idle a = blank 0 a noNumber
 
--- a transaction is open: ages begin at 1
+-- a transaction is open
 abbrev pub isOpen : Desk → Bool
-isOpen k = not (eqb (k .age .0) 0)
+isOpen k = not (eqb (k .busy) 0)
+
+-- no age was given to the desk's transaction, open or aborted: ages begin at 1
+abbrev pub ageless : Desk → Bool
+ageless k = eqb (k .age .0) 0
 
 -- the desk's private copy of item i
 abbrev pub copyOf : Desk → ℕ → ℕ
@@ -35,7 +43,7 @@ copyOf k i = getD (k .copies) i 0
 
 -- a desk's record; past the sixteenth there is none, not even room for copies
 abbrev pub beyond : Desk
-beyond = record { age = noAge; start = noNumber; read = none; shared = none; written = none; copies = [] }
+beyond = record { busy = 0; age = noAge; start = noNumber; read = none; shared = none; written = none; copies = [] }
 
 abbrev pub deskIn : List Desk → ℕ → Desk
 deskIn desks d = getD desks d beyond

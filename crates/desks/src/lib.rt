@@ -4,11 +4,12 @@ use counters::Age;
 use counters::Number;
 use items::Items;
 ghost use mathlib.Core.Path.{_≡_};
-ghost use Rattle.desks.specs.Desks.{opened, idle, isOpen};
+ghost use Rattle.desks.specs.Desks.{blank, opened, idle, isOpen};
 
-// A desk's record: its open transaction, or all zero. It has no padding, so that it is copied whole.
+// A desk's record: its open transaction, or all zero but for an age kept from an abort. It has no padding, so that it is copied whole.
 #[repr(C)]
 pub struct Desk {
+    pub busy: u64, // 1 while a transaction is open, else 0
     pub age: Age,
     pub start: Number,
     pub read: Items,
@@ -17,11 +18,12 @@ pub struct Desk {
     pub copies: [u32; 64],
 }
 
-// A transaction just begun.
-pub fn opened(age: Age, start: Number) -> Desk
-    ensures { λ r. ⌜ r ≡ opened age start ⌝ }
+// Nothing read, held or written.
+fn blank(busy: u64, age: Age, start: Number) -> Desk
+    ensures { λ r. ⌜ r ≡ blank busy age start ⌝ }
 {
     Desk {
+        busy,
         age,
         start,
         read: Items::NONE,
@@ -31,16 +33,23 @@ pub fn opened(age: Age, start: Number) -> Desk
     }
 }
 
-// A desk with nothing open.
-pub fn idle() -> Desk
-    ensures { λ r. ⌜ r ≡ idle ⌝ }
+// A transaction just begun.
+pub fn opened(age: Age, start: Number) -> Desk
+    ensures { λ r. ⌜ r ≡ opened age start ⌝ }
 {
-    opened(Age::ZERO, Number::ZERO)
+    blank(1, age, start)
 }
 
-// A transaction is open: ages begin at 1.
+// A desk with nothing open, and the age that it keeps: 0 where it keeps none.
+pub fn idle(kept: Age) -> Desk
+    ensures { λ r. ⌜ r ≡ idle kept ⌝ }
+{
+    blank(0, kept, Number::ZERO)
+}
+
+// A transaction is open.
 pub fn is_open(k: Desk) -> bool
     ensures { λ r. ⌜ r ≡ isOpen k ⌝ }
 {
-    k.age.0 != 0
+    k.busy != 0
 }

@@ -3,11 +3,11 @@ use borrow.Author.Needs.{needs}
 use Rattle.desks.proofs.idle.Statement.{statement}
 use Rattle.desks.proofs.idle.Tie as tie
 
-opened-requires : tie.Need-opened-requires
-opened-requires c κs = search needs
+blank-requires : tie.Need-blank-requires
+blank-requires c κs = search needs
 
 returns : tie.Need-returns
-returns c = c .opened .ensures
+returns c = c .blank .ensures
 
 pub idle-spec : {M : Type 1} → statement M
-idle-spec = tie.close (tie.spec opened-requires returns)
+idle-spec = tie.close (tie.spec blank-requires returns)

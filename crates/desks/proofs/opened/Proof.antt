@@ -1,10 +1,13 @@
--- The record is the definition's own.
-use mathlib.Core.Path.{refl}
+-- The callee says it.
+use borrow.Author.Needs.{needs}
 use Rattle.desks.proofs.opened.Statement.{statement}
 use Rattle.desks.proofs.opened.Tie as tie
 
+blank-requires : tie.Need-blank-requires
+blank-requires c κs = search needs
+
 returns : tie.Need-returns
-returns c = refl
+returns c = c .blank .ensures
 
 pub opened-spec : {M : Type 1} → statement M
-opened-spec = tie.close (tie.spec returns)
+opened-spec = tie.close (tie.spec blank-requires returns)
