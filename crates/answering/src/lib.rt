@@ -15,20 +15,26 @@ ghost use Rattle.wire.specs.declared.Request;
 ghost use Rattle.board.specs.Rules.{itemChecks, seen, answered, answer};
 ghost use Rattle.board.specs.Reached.{Counted};
 
+// With the age that the desk keeps from an abort, else with the next one.
 fn begin(b: Board, d: usize) -> Answer
     requires { ⌜ d < 16 ⌝ }
     ensures { λ r. ⌜ r ≡ answered b d Request.Begin ⌝ }
 {
     let desks = b.desks;
-    if is_open(desks[d]) {
+    let k = desks[d];
+    if is_open(k) {
         return Answer::Refused(4);
     }
-    let age = b.age;
-    if age.0 >= 2000 {
+    let start = b.number;
+    let kept = k.age;
+    if kept.0 != 0 {
+        return Answer::Opened(kept, start);
+    }
+    let last = b.age;
+    if last.0 >= 2000 {
         return Answer::Refused(9);
     }
-    let start = b.number;
-    Answer::Opened(age.next(), start)
+    Answer::Opened(last.next(), start)
 }
 
 // The desk's own copy if it has written the item, else the board's value.

@@ -1,15 +1,16 @@
 -- The answers, check by check in their order: what the code's ways out cite.
 use mathlib.Core.Path.{_≡_, refl, sym, _∙_}
-use mathlib.Core.Bool.{Bool, true, false, cond, not, _&&_}
+use mathlib.Core.Bool.{Bool, true, false, cond, not}
 use Prim.Native.Nat.{ℕ, _≤_, _<_, suc-le-suc}
-use borrow.Author.Tests.{le-leb, le-ltb, lt-ltb, ltb-false, ne-eqb}
-use lib.Dec.{ltb, leb}
+use borrow.Author.Tests.{le-leb, lt-leb, le-ltb, lt-ltb, ltb-false, eq-eqb, ne-eqb}
+use lib.Dec.{ltb}
 use lib.ListN.{getD}
+use Rattle.counters.specs.Counters.{nextAge}
 use Rattle.wire.specs.Checks.{firstFailing}
 use Rattle.wire.proofs.Checks.{Passed, all-passed}
 use Rattle.wire.specs.declared.Request.the-variants.{Begin, Read, Write, End, Abandon}
-use Rattle.wire.specs.declared.Answer.the-variants.{Refused, Abandoned}
-use Rattle.desks.specs.Desks.{isOpen, ageless}
+use Rattle.wire.specs.declared.Answer.the-variants.{Refused, Opened, Abandoned}
+use Rattle.desks.specs.Desks.{isOpen}
 use Rattle.board.specs.Rules.{deskAt, itemChecks, granted, answered}
 use Rattle.board.specs.declared.Board.{Board}
 
@@ -20,13 +21,19 @@ module _ (b : Board) (d : ℕ) where
 
   -- the desk has nothing open
   module _ (e : isOpen (deskAt b d) ≡ false) where
-    pub begin-late : ageless (deskAt b d) ≡ true → 2000 ≤ b .age .0 → Refused 9 ≡ answered b d Begin
+    pub begin-kept : (deskAt b d .age .0 ≡ 0 → ⊥) → Opened (deskAt b d .age) (b .number) ≡ answered b d Begin
     unfolding answered
-    begin-late n h = rw (e, n, le-leb 2000 (b .age .0) h)
+    begin-kept some = rw (e, ne-eqb (deskAt b d .age .0) 0 some)
 
-    pub begin-granted : (ageless (deskAt b d) && leb 2000 (b .age .0)) ≡ false → granted b d Begin ≡ answered b d Begin
-    unfolding answered
-    begin-granted h = rw (e, h)
+    -- and keeps no age
+    module _ (none : deskAt b d .age .0 ≡ 0) where
+      pub begin-late : 2000 ≤ b .age .0 → Refused 9 ≡ answered b d Begin
+      unfolding answered
+      begin-late h = rw (e, eq-eqb (deskAt b d .age .0) 0 none, le-leb 2000 (b .age .0) h)
+
+      pub begin-new : b .age .0 < 2000 → Opened (nextAge (b .age)) (b .number) ≡ answered b d Begin
+      unfolding answered
+      begin-new h = rw (e, eq-eqb (deskAt b d .age .0) 0 none, lt-leb 2000 (b .age .0) h)
 
     pub end-none : Refused 5 ≡ answered b d End
     unfolding answered

@@ -48,7 +48,7 @@ fn holder(desks: [Desk; 16], guarded: Items, d: usize, i: usize, w: bool) -> usi
     ensures { λ r. ⌜ r ≡ holder desks guarded d i w ⌝ }
 {
     let mut others = desks;
-    others[d] = idle();
+    others[d] = idle(Age::ZERO);
     let mut found = Found {
         desk: 16,
         age: Age::ZERO,

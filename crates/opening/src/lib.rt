@@ -44,7 +44,7 @@ fn guarded(table: &[u8]) -> Items
     set
 }
 
-// Nothing is given yet, nothing written, and every desk is idle.
+// Nothing is given yet, nothing written, and every desk is idle and keeps no age.
 pub fn opening(table: &[u8]) -> Board
     requires { ⌜ length (now table) ≡ 1024 ⌝ }
     ensures { λ r. ⌜ r ≡ opening (now (table .entry)) ⌝ }
@@ -57,6 +57,6 @@ pub fn opening(table: &[u8]) -> Board
         age: Age::ZERO,
         number: Number::ZERO,
         sets: [Items::NONE; 16],
-        desks: [idle(); 16],
+        desks: [idle(Age::ZERO); 16],
     }
 }

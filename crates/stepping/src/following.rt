@@ -1,5 +1,6 @@
 // The board after an answer.
 use board::Board;
+use counters::Age;
 use decoding::desk_of;
 use decoding::value_of;
 use desks::Desk;
@@ -12,7 +13,17 @@ ghost use Prim.Native.Nat.{_<_};
 ghost use Rattle.wire.specs.Requests.{deskOf};
 ghost use Rattle.wire.specs.Answers.{itemOf};
 ghost use Rattle.desks.specs.Desks.{copyOf};
-ghost use Rattle.board.specs.Rules.{reading, writing, installed, follow};
+ghost use Rattle.board.specs.Rules.{lastGiven, reading, writing, installed, follow};
+
+// The last age given: a new age is above it, and one that was kept is not.
+fn last_given(last: Age, age: Age) -> Age
+    ensures { λ r. ⌜ r ≡ lastGiven last age ⌝ }
+{
+    if last.below(age) {
+        return age;
+    }
+    last
+}
 
 // An open item joins the open-read set; a guarded one joins the shared set if the desk has not written it.
 fn reading(k: Desk, i: usize, guarded: bool) -> Desk
@@ -69,7 +80,7 @@ pub fn follow(b: Board, asked: Decoded, answer: Answer) -> Board
     match answer {
         Answer::Refused(_) => {}
         Answer::Opened(age, start) => {
-            after.age = age;
+            after.age = last_given(after.age, age);
             after.desks[d] = opened(age, start);
         }
         Answer::Value(i, _) => {
@@ -88,13 +99,14 @@ pub fn follow(b: Board, asked: Decoded, answer: Answer) -> Board
             after.values = values;
             after.number = number;
             after.sets[number.place()] = written;
-            after.desks[d] = idle();
+            after.desks[d] = idle(Age::ZERO); // what is committed needs its age no more
         }
         Answer::Abandoned => {
-            after.desks[d] = idle();
+            after.desks[d] = idle(Age::ZERO); // nor does what is abandoned
         }
         Answer::Aborted(_) => {
-            after.desks[d] = idle(); // no copy is left for the desk's next transaction
+            let k = after.desks[d];
+            after.desks[d] = idle(k.age); // no copy is left for the desk's next transaction
         }
     }
     after

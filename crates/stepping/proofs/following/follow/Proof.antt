@@ -13,11 +13,14 @@ enum-told c = search needs
 enum-known-answer : tie.Need-enum-known-answer
 enum-known-answer c = search needs
 
+last-given-requires : tie.Need-last-given-requires
+last-given-requires c κs = search needs
+
 opened-requires : tie.Need-opened-requires
 opened-requires c κs = search needs
 
-mul-t17 : tie.Need-mul-t17
-mul-t17 c = search needs
+mul-t20 : tie.Need-mul-t20
+mul-t20 c = search needs
 
 element-set-from-after : tie.Need-element-set-from-after
 element-set-from-after c = search needs
@@ -40,8 +43,8 @@ has-requires c κs = rw (c .before .before .before .answer2 .given .1) at (c .be
 reading-requires : tie.Need-reading-requires
 reading-requires c κs = rw (c .before .before .before .before .answer2 .given .1) at (c .before .before .before .before .before .before .before .pre .1)
 
-mul-t27 : tie.Need-mul-t27
-mul-t27 c = search needs
+mul-t30 : tie.Need-mul-t30
+mul-t30 c = search needs
 
 element-set-from-after-2 : tie.Need-element-set-from-after-2
 element-set-from-after-2 c = search needs
@@ -64,8 +67,8 @@ value-of-requires c κs = search needs
 writing-requires : tie.Need-writing-requires
 writing-requires c κs = rw (c .before .before .before .answer3 .given .1) at (c .before .before .before .before .before .before .pre .1)
 
-mul-t37 : tie.Need-mul-t37
-mul-t37 c = search needs
+mul-t40 : tie.Need-mul-t40
+mul-t40 c = search needs
 
 element-set-from-after-3 : tie.Need-element-set-from-after-3
 element-set-from-after-3 c = search needs
@@ -97,8 +100,8 @@ element-set-from-written c = search needs
 idle-requires : tie.Need-idle-requires
 idle-requires c κs = search needs
 
-mul-t44 : tie.Need-mul-t44
-mul-t44 c = search needs
+mul-t47 : tie.Need-mul-t47
+mul-t47 c = search needs
 
 element-set-from-after-4 : tie.Need-element-set-from-after-4
 element-set-from-after-4 c = search needs
@@ -109,8 +112,8 @@ enum-told-3 c = search needs
 idle-requires-2 : tie.Need-idle-requires-2
 idle-requires-2 c κs = search needs
 
-mul-t50 : tie.Need-mul-t50
-mul-t50 c = search needs
+mul-t55 : tie.Need-mul-t55
+mul-t55 c = search needs
 
 element-set-from-after-5 : tie.Need-element-set-from-after-5
 element-set-from-after-5 c = search needs
@@ -118,11 +121,17 @@ element-set-from-after-5 c = search needs
 enum-told-4 : tie.Need-enum-told-4
 enum-told-4 c = search needs
 
+mul-k-2 : tie.Need-mul-k-2
+mul-k-2 c = search needs
+
+element-copy-out-k-2 : tie.Need-element-copy-out-k-2
+element-copy-out-k-2 c = search needs
+
 idle-requires-3 : tie.Need-idle-requires-3
 idle-requires-3 c κs = search needs
 
-mul-t54 : tie.Need-mul-t54
-mul-t54 c = search needs
+mul-t58 : tie.Need-mul-t58
+mul-t58 c = search needs
 
 element-set-from-after-6 : tie.Need-element-set-from-after-6
 element-set-from-after-6 c = search needs
@@ -133,7 +142,7 @@ returns c = rw (c .enum-told .given .1)
 
 returns-2 : tie.Need-returns-2
 unfolding follow
-returns-2 c = rw (c .before .before .answer .given .1, c .before .before .before .before .desk-of .ensures, c .opened .ensures)
+returns-2 c = rw (c .before .before .before .before .answer .given .1, c .before .before .before .before .before .before .desk-of .ensures, c .before .last-given .ensures, c .opened .ensures)
 
 returns-3 : tie.Need-returns-3
 unfolding follow
@@ -157,7 +166,7 @@ returns-7 c = rw (c .before .enum-told3 .given .1, c .before .before .before .de
 
 returns-8 : tie.Need-returns-8
 unfolding follow
-returns-8 c = rw (c .before .enum-told4 .given .1, c .before .before .before .desk-of .ensures, c .idle3 .ensures)
+returns-8 c = rw (c .before .before .enum-told4 .given .1, c .idle3 .ensures, c .before .before .before .before .desk-of .ensures)
 
 pub follow-spec : {M : Type 1} → statement M
 follow-spec =
@@ -166,8 +175,9 @@ follow-spec =
     desk-of-requires
     enum-told
     enum-known-answer
+    last-given-requires
     opened-requires
-    mul-t17
+    mul-t20
     element-set-from-after
     enum-known-answer-2
     cast-item
@@ -175,7 +185,7 @@ follow-spec =
     element-copy-out-reading
     has-requires
     reading-requires
-    mul-t27
+    mul-t30
     element-set-from-after-2
     enum-known-answer-3
     mul-writing
@@ -183,7 +193,7 @@ follow-spec =
     cast-writing
     value-of-requires
     writing-requires
-    mul-t37
+    mul-t40
     element-set-from-after-3
     enum-told-2
     enum-known-answer-4
@@ -194,15 +204,17 @@ follow-spec =
     mul-written
     element-set-from-written
     idle-requires
-    mul-t44
+    mul-t47
     element-set-from-after-4
     enum-told-3
     idle-requires-2
-    mul-t50
+    mul-t55
     element-set-from-after-5
     enum-told-4
+    mul-k-2
+    element-copy-out-k-2
     idle-requires-3
-    mul-t54
+    mul-t58
     element-set-from-after-6
     returns
     returns-2
