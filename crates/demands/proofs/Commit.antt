@@ -14,11 +14,13 @@ use Rattle.items.proofs.Tests.{by-test, clash}
 use Rattle.runs.specs.Replay.{Op, Transaction, replayed, Fits}
 use Rattle.runs.proofs.Log.{replayed-at, replayed-length, fits}
 use Rattle.runs.proofs.Account.{account-none, account-moved, account-fits}
+use Rattle.items.proofs.Laws.{has-none}
+use Rattle.counters.specs.Counters.{noAge}
 use Rattle.desks.specs.Desks.{idle, deskIn, copyOf}
 use Rattle.board.specs.Rules.{installed}
 use Rattle.desks.specs.declared.Desk.{Desk}
 use Rattle.board.proofs.Filled.{filled-length, filled-other, filled-at}
-use Rattle.board.proofs.Desks.{Locks, idle-blank, blank-written}
+use Rattle.board.proofs.Desks.{Locks}
 use Rattle.demands.proofs.Invariant.{relies, Did, Accounts, accounts-set, Ledger}
 
 -- the values after desk k's commit
@@ -71,9 +73,9 @@ module _ {values : List ℕ} {guarded : Items} {stale : ℕ → ℕ → Bool} {d
       {stale′ : ℕ → ℕ → Bool}
       → ((e : ℕ) → e < 16 → e ≢ d → (i : ℕ) → stale′ (deskIn desks e .start .0) i ≡ false → relies guarded (deskIn desks e) i ≡ true
       → (stale (deskIn desks e .start .0) i ≡ false) × (has (k .written) i ≡ false))
-      → Accounts (after k values) guarded stale′ (set desks d idle) (set logs d [])
+      → Accounts (after k values) guarded stale′ (set desks d (idle noAge)) (set logs d [])
   commit-accounts stays =
-      accounts-set accounts sixteen d hd idle [] (account-none (blank-written idle-blank))
+      accounts-set accounts sixteen d hd (idle noAge) [] (account-none has-none)
       (λ e he n.
       account-moved (accounts .did e he) (λ i r. r)
       (λ i s r.

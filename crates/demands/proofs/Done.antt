@@ -9,6 +9,7 @@ use lib.Seq.{set-getD, set-comm, getD-set-other}
 use Rattle.items.specs.Items.{has}
 use Rattle.items.specs.declared.Items.{Items}
 use Rattle.items.proofs.Tests.{clash}
+use Rattle.counters.specs.Counters.{noAge}
 use Rattle.counters.specs.declared.Age.{Age}
 use Rattle.counters.specs.declared.Number.{Number}
 use Rattle.wire.specs.Requests.{decode, deskOf, valueOf}
@@ -33,9 +34,9 @@ deskAfter g k v (Opened a s) = opened a s
 deskAfter g k v (Value i x) = reading k i (has g i)
 deskAfter g k v (Stored i) = writing k i v
 deskAfter g k v (Wait i e) = k
-deskAfter g k v (Committed n) = idle
-deskAfter g k v Abandoned = idle
-deskAfter g k v (Aborted w) = idle
+deskAfter g k v (Committed n) = idle noAge
+deskAfter g k v Abandoned = idle noAge
+deskAfter g k v (Aborted w) = idle (k .age)
 
 abbrev pub deskNow : Board → Decoded → Answer → Desk
 deskNow b q a = deskAfter (b .guarded) (deskAt b (deskOf q)) (valueOf q) a
@@ -127,7 +128,7 @@ module _ (b : Board) (q : Decoded) (e : ℕ) (k : Desk) (ne : deskOf q ≢ e) wh
   pub follow-put : (a : Answer) → Kind a → follow (put b e k) q a ≡ put (follow b q a) e k
   unfolding follow
   follow-put a (opens x s) = ap (withDesks (begun b d x s)) (swapped (opened x s))
-  follow-put a (commits n) = rw away (ap (withDesks (committed b d n)) (swapped idle))
+  follow-put a (commits n) = rw away (ap (withDesks (committed b d n)) (swapped (idle noAge)))
   follow-put a (own h) =
       h (put b e k) q
       ∙ ap (λ (x : Desk). put (put b e k) d (deskAfter (b .guarded) x (valueOf q) a)) away

@@ -7,22 +7,19 @@ use native.Mathlib.Nat.{le-refl}
 use native.Mathlib.Omega.{arith}
 use borrow.Author.Tests.{eq-eqb, ltb-true, ltb-false}
 use lib.Dec.{eqb, ltb}
-use Rattle.items.proofs.Tests.{by-cond, clash, and-left, and-right}
-use Rattle.wire.proofs.Checks.{Passed}
+use Rattle.items.proofs.Tests.{by-test, by-cond, clash, and-left, and-right}
 use Rattle.wire.specs.declared.Request.{Request}
 use Rattle.wire.specs.declared.Request.the-variants.{Begin, Read, Write, End, Abandon}
 use Rattle.wire.specs.declared.Answer.{Answer}
 use Rattle.wire.specs.declared.Answer.the-variants.{Value, Stored}
 use Rattle.desks.specs.Desks.{conflicts, inTheWay, holder, locked, isOpen}
-use Rattle.board.specs.Rules.{seen, deskAt, isGuarded, checks, refusal, granted, answered, answer, step}
+use Rattle.board.specs.Rules.{seen, deskAt, isGuarded, refusal, granted, answered, answer, step}
 use Rattle.demands.specs.Demands.{names}
 use Rattle.demands.specs.Waiting.{conflicting, Older, OldestHolder, NamesHolder, NamesTheOldest}
 use Rattle.board.specs.declared.Board.{Board}
 use Rattle.desks.proofs.Eldest.{eldest-picked, eldest-below, eldest-least}
-use Rattle.desks.proofs.Locking.{idle-clear}
-use Rattle.desks.proofs.Locking.{locked-ways}
+use Rattle.desks.proofs.Locking.{idle-clear, locked-ways}
 use Rattle.board.proofs.Validated.{ended-ways}
-use Rattle.board.proofs.Granted.{is-open, checks-passed}
 use Rattle.board.proofs.Sound.{Sound}
 use Rattle.board.proofs.Reached.{run-sound}
 
@@ -38,10 +35,17 @@ module _ {b : Board} (sound : Sound b) (d : ℕ) (r : Request) (i : ℕ) (w : Bo
   found = holder (b .desks) (b .guarded) d i w
 
   -- a desk in the way is open
-  way-open : (e : ℕ) → e < 16 → way e ≡ true → age e ≢ 0
-  way-open e low t none =
+  pub way-open : (e : ℕ) → e < 16 → way e ≡ true → isOpen (deskAt b e) ≡ true
+  way-open e low t =
+      by-test (isOpen (deskAt b e)) (λ o. o)
+      (λ closed.
       clash (and-right (isGuarded b i && not (eqb e d)) (conflicts (deskAt b e) i w) t)
-      (rw (sound .desks .each e low .closed (rw none)) (idle-clear i w))
+      (rw (sound .desks .each e low .closed closed) (idle-clear (deskAt b e .age) i w)))
+
+  -- and so has an age, which no other desk has
+  open-apart : (e f : ℕ) → e < 16 → isOpen (deskAt b e) ≡ true → e ≢ f → age e ≡ age f → ⊥
+  open-apart e f low o n same =
+      clash (eq-eqb (age e) 0 (sound .desks .ages .apart e f n same)) (sound .desks .each e low .aged o)
 
   -- and another one
   way-other : (e : ℕ) → way e ≡ true → d ≢ e
@@ -62,13 +66,12 @@ module _ {b : Board} (sound : Sound b) (d : ℕ) (r : Request) (i : ℕ) (w : Bo
     oldest : (f : ℕ) → f < 16 → way f ≡ true → f ≢ found → Older b found f
     oldest f h t n =
         before found f (eldest-least way age 16 (le-refl 16) f h t)
-        (λ same. way-open found low picked (sound .desks .ages .apart found f (λ p. n (sym p)) same))
+        (open-apart found f low (way-open found low picked) (λ p. n (sym p)))
 
-    -- the desk that asks is open
-    older-than : isOpen (deskAt b d) ≡ true → ltb (age d) (age found) ≡ false → Older b found d
-    older-than busy f =
+    older-than : ltb (age d) (age found) ≡ false → Older b found d
+    older-than f =
         before found d (ltb-false (age d) (age found) f)
-        (λ same. clash busy (rw (sound .desks .ages .apart d found (way-other found picked) (sym same))))
+        (open-apart found d low (way-open found low picked) (λ p. way-other found picked (sym p)))
 
   module _ (named : names r i ≡ true) (same : (e : ℕ) → conflicting b d r e ≡ way e) where
     named-oldest : eqb found 16 ≡ false → OldestHolder b d r i found
@@ -80,24 +83,24 @@ module _ {b : Board} (sound : Sound b) (d : ℕ) (r : Request) (i : ℕ) (w : Bo
           oldest = λ f h t. oldest held f h (sym (same f) ∙ t);
         }
 
-    locked-names : isOpen (deskAt b d) ≡ true → (x : Answer) → NamesHolder b d r x → NamesHolder b d r (locked (b .desks) (b .guarded) d i w x)
-    locked-names busy x granted =
+    locked-names : (x : Answer) → NamesHolder b d r x → NamesHolder b d r (locked (b .desks) (b .guarded) d i w x)
+    locked-names x granted =
         locked-ways (NamesHolder b d r) (b .desks) (b .guarded) d i w x (λ free. granted)
         (λ held older. (named-oldest held, ltb-true (age d) (age found) older))
-        (λ held younger. (named-oldest held, older-than held busy younger))
+        (λ held younger. (named-oldest held, older-than held younger))
 
 module _ {b : Board} (sound : Sound b) (d : ℕ) where
-  granted-names : (r : Request) → Passed (checks b d r) → NamesHolder b d r (granted b d r)
-  granted-names Begin p = tt
-  granted-names (Read i) p = locked-names sound d (Read i) i false (eq-eqb i i refl) (λ e. refl) (is-open (deskAt b d) (p .0)) (Value i (seen (b .values) (deskAt b d) i)) tt
-  granted-names (Write i v) p = locked-names sound d (Write i v) i true (eq-eqb i i refl) (λ e. refl) (is-open (deskAt b d) (p .0)) (Stored i) tt
-  granted-names End p = ended-ways (NamesHolder b d End) (b .sets) (b .number) (deskAt b d) (λ unread. tt) tt (λ recent fresh. tt) tt
-  granted-names Abandon p = tt
+  granted-names : (r : Request) → NamesHolder b d r (granted b d r)
+  granted-names Begin = tt
+  granted-names (Read i) = locked-names sound d (Read i) i false (eq-eqb i i refl) (λ e. refl) (Value i (seen (b .values) (deskAt b d) i)) tt
+  granted-names (Write i v) = locked-names sound d (Write i v) i true (eq-eqb i i refl) (λ e. refl) (Stored i) tt
+  granted-names End = ended-ways (NamesHolder b d End) (b .sets) (b .number) (deskAt b d) (λ unread. tt) tt (λ recent fresh. tt) tt
+  granted-names Abandon = tt
 
   answered-names : (r : Request) → NamesHolder b d r (answered b d r)
   unfolding answered
   answered-names r =
-      by-cond (NamesHolder b d r) (eqb (refusal b d r) 0) (λ passed. granted-names r (checks-passed b d r passed)) (λ refused. tt)
+      by-cond (NamesHolder b d r) (eqb (refusal b d r) 0) (λ passed. granted-names r) (λ refused. tt)
 
 pub names-the-oldest : NamesTheOldest
 unfolding step answer

@@ -11,15 +11,14 @@ use Rattle.wire.specs.Requests.{decode, deskOf, valueOf}
 use Rattle.wire.specs.declared.Decoded.{Decoded}
 use Rattle.wire.specs.declared.Answer.{Answer}
 use Rattle.wire.specs.declared.Answer.the-variants.{Refused, Opened, Value, Stored, Wait, Committed, Abandoned, Aborted}
-use Rattle.desks.specs.Desks.{idle, opened}
-use Rattle.board.specs.Rules.{answer, follow, step, next, reply}
+use Rattle.counters.specs.Counters.{noAge, noNumber}
+use Rattle.board.specs.Rules.{deskAt, answer, follow, step, next, reply}
 use Rattle.board.specs.Opening.{opening}
 use Rattle.demands.specs.History.{History, nothing, told, historyFrom}
 use Rattle.demands.specs.Demands.{Replays}
 use Rattle.board.specs.declared.Board.{Board}
 use Rattle.board.proofs.Granted.{Granted, answer-granted}
 use Rattle.board.proofs.Bounds.{desk-low}
-use Rattle.board.proofs.Desks.{idle-blank, opened-blank}
 use Rattle.board.proofs.Sound.{opening-sound, follow-sound}
 use Rattle.demands.proofs.Invariant.{overwritten, Inv, reseated}
 use Rattle.demands.proofs.Steps.{opening-accounts, step-blank, step-read, step-write}
@@ -33,7 +32,7 @@ module _ {values : List ℕ} {b : Board} {h : History} (inv : Inv values b h) wh
   unfolding follow
   follow-keeps q hd (Refused n) may = inv
   follow-keeps q hd (Opened a s) may =
-      reseated inv (follow-sound (inv .sound) q hd (Opened a s) may) (step-blank (inv .sound) (inv .accounts) (deskOf q) hd (opened a s) (opened-blank a s))
+      reseated inv (follow-sound (inv .sound) q hd (Opened a s) may) (step-blank (inv .sound) (inv .accounts) (deskOf q) hd 1 a s)
   follow-keeps q hd (Value i v) may =
       reseated inv (follow-sound (inv .sound) q hd (Value i v) may) (step-read (inv .sound) (inv .accounts) (deskOf q) hd i v may)
   follow-keeps q hd (Stored i) may =
@@ -41,9 +40,9 @@ module _ {values : List ℕ} {b : Board} {h : History} (inv : Inv values b h) wh
   follow-keeps q hd (Wait i e) may = inv
   follow-keeps q hd (Committed n) may = step-commit inv (deskOf q) hd n may (follow-sound (inv .sound) q hd (Committed n) may)
   follow-keeps q hd Abandoned may =
-      reseated inv (follow-sound (inv .sound) q hd Abandoned may) (step-blank (inv .sound) (inv .accounts) (deskOf q) hd idle idle-blank)
+      reseated inv (follow-sound (inv .sound) q hd Abandoned may) (step-blank (inv .sound) (inv .accounts) (deskOf q) hd 0 noAge noNumber)
   follow-keeps q hd (Aborted w) may =
-      reseated inv (follow-sound (inv .sound) q hd (Aborted w) may) (step-blank (inv .sound) (inv .accounts) (deskOf q) hd idle idle-blank)
+      reseated inv (follow-sound (inv .sound) q hd (Aborted w) may) (step-blank (inv .sound) (inv .accounts) (deskOf q) hd 0 (deskAt b (deskOf q) .age) noNumber)
 
   step-keeps : (q : List ℕ) → Inv values (next b q) (told h (decode q) (reply b q))
   unfolding step

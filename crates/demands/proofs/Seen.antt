@@ -9,7 +9,6 @@ use lib.Dec.{eqb, ltb, leb}
 use Rattle.items.specs.Items.{has}
 use Rattle.items.specs.declared.Items.{Items}
 use Rattle.items.proofs.Tests.{clash, cond-same, and-right, or-left, or-right, or-in-right}
-use Rattle.counters.specs.Counters.{nextAge}
 use Rattle.counters.specs.declared.Age.{Age}
 use Rattle.counters.specs.declared.Number.{Number}
 use Rattle.wire.specs.Checks.{_fails_, firstFailing}
@@ -19,8 +18,8 @@ use Rattle.wire.specs.declared.Decoded.the-variants.{Asked}
 use Rattle.wire.specs.declared.Reason.the-variants.{Yield}
 use Rattle.wire.specs.declared.Answer.{Answer}
 use Rattle.wire.specs.declared.Answer.the-variants.{Refused, Opened, Value, Wait, Aborted}
-use Rattle.desks.specs.Desks.{conflicts, inTheWay, holder, lockedBy, locked, isOpen, copyOf}
-use Rattle.board.specs.Rules.{deskAt, isGuarded, refusal, ended, granted, answered, answer}
+use Rattle.desks.specs.Desks.{conflicts, inTheWay, holder, lockedBy, locked, isOpen, ageless, copyOf}
+use Rattle.board.specs.Rules.{deskAt, isGuarded, refusal, ended, ageFor, granted, answered, answer}
 use Rattle.demands.specs.Demands.{bound, names, touched, concerns}
 use Rattle.desks.specs.declared.Desk.{Desk}
 use Rattle.board.specs.declared.Board.{Board}
@@ -122,7 +121,7 @@ module _ (b c : Board) (d : ℕ) where
 
   refusal-same : (r : Request) → Alike b c d r → refusal b d r ≡ refusal c d r
   refusal-same Begin a =
-      ap₂ (λ (k : Desk) (n : Counts). firstFailing (isOpen k fails 4 ∷ leb 2000 (n .0 .0) fails 9 ∷ [])) (a .desk) (a .counts-same refl)
+      ap₂ (λ (k : Desk) (n : Counts). firstFailing (isOpen k fails 4 ∷ (ageless k && leb 2000 (n .0 .0)) fails 9 ∷ [])) (a .desk) (a .counts-same refl)
   refusal-same (Read i) a = rw (a .desk)
   refusal-same (Write i v) a =
       rw (a .desk, ap (λ (t : Ranges). t .0) (a .ranges-same), ap (λ (t : Ranges). t .1) (a .ranges-same))
@@ -130,7 +129,7 @@ module _ (b c : Board) (d : ℕ) where
   refusal-same Abandon a = rw (a .desk)
 
   granted-same : (r : Request) → Alike b c d r → eqb (refusal b d r) 0 ≡ true → granted b d r ≡ granted c d r
-  granted-same Begin a ok = ap (λ (n : Counts). Opened (nextAge (n .0)) (n .1)) (a .counts-same refl)
+  granted-same Begin a ok = ap₂ (λ (k : Desk) (n : Counts). Opened (ageFor k (n .0)) (n .1)) (a .desk) (a .counts-same refl)
   granted-same (Read i) a ok =
       let at = named-alike (Read i) a i (checks-passed b d (Read i) ok .1 .0) (eq-eqb i i refl) in
       locked-same b c d i false at (a .desk)

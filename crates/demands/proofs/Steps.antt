@@ -8,27 +8,30 @@ use lib.Seq.{getD-set-same, getD-set-other}
 use Rattle.items.specs.Items.{has, with}
 use Rattle.items.specs.declared.Items.{Items}
 use Rattle.items.proofs.Tests.{by-test, by-cond, by-equal, clash, or-left, or-right, or-both}
-use Rattle.items.proofs.Laws.{with-same, with-other, with-less}
+use Rattle.items.proofs.Laws.{has-none, with-same, with-other, with-less}
+use Rattle.counters.specs.Counters.{noAge}
+use Rattle.counters.specs.declared.Age.{Age}
+use Rattle.counters.specs.declared.Number.{Number}
 use Rattle.runs.specs.Replay.{Op, got, put}
 use Rattle.runs.proofs.Account.{account-none, account-got, account-put}
-use Rattle.desks.specs.Desks.{idle, beyond}
+use Rattle.desks.specs.Desks.{blank, idle, beyond}
 use Rattle.board.specs.Rules.{reading, writing, deskAt, isGuarded}
 use Rattle.desks.specs.declared.Desk.{Desk}
 use Rattle.board.specs.declared.Board.{Board}
 use Rattle.board.proofs.Desks.{holds}
 use Rattle.board.proofs.Granted.{MayRead, MayWrite}
-use Rattle.board.proofs.Desks.{Blank, idle-blank, blank-written, writing-holds}
+use Rattle.board.proofs.Desks.{writing-holds}
 use Rattle.board.proofs.Sound.{Sound}
 use Rattle.demands.proofs.Invariant.{relies, Did, Accounts, accounts-set}
 
 -- ---- all desks idle
 
-pub opening-accounts : (values : List ℕ) (guarded : Items) (stale : ℕ → ℕ → Bool) → Accounts values guarded stale (replicate 16 idle) (replicate 16 [])
+pub opening-accounts : (values : List ℕ) (guarded : Items) (stale : ℕ → ℕ → Bool) → Accounts values guarded stale (replicate 16 (idle noAge)) (replicate 16 [])
 opening-accounts values guarded stale =
     record {
       has-logs = refl;
       did =
-          λ e he. rw (getD-replicate 16 e idle beyond he, getD-replicate {A = List Op} 16 e [] [] he) (account-none (blank-written idle-blank));
+          λ e he. rw (getD-replicate 16 e (idle noAge) beyond he, getD-replicate {A = List Op} 16 e [] [] he) (account-none has-none);
     }
 
 -- ---- what a desk relies on grows
@@ -93,8 +96,8 @@ module _ {b : Board} (sound : Sound b) {stale : ℕ → ℕ → Bool} {logs : Li
   next k l new = accounts-set accounts (sound .desks .sixteen) d hd k l new (λ e he n. accounts .did e he)
 
   -- a desk set anew, with nothing done
-  pub step-blank : (m : Desk) → Blank m → Next m []
-  step-blank m blank = next m [] (account-none (blank-written blank))
+  pub step-blank : (o : ℕ) (a : Age) (s : Number) → Next (blank o a s) []
+  step-blank o a s = next (blank o a s) [] (account-none has-none)
 
   pub step-read : (i v : ℕ) → MayRead b d i v → Next (reading k i (isGuarded b i)) (got i v ∷ getD logs d [])
   step-read i v may =

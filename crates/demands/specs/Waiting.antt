@@ -28,7 +28,7 @@ conflicting b d (Write i v) e = inTheWay (b .desks) (b .guarded) d i true e
 conflicting b d End e = false
 conflicting b d Abandon e = false
 
--- desk d began before desk e
+-- desk d is older than desk e: it has the lower age
 abbrev pub Older : Board → ℕ → ℕ → Type 0
 Older b d e = deskAt b d .age .0 < deskAt b e .age .0
 
