@@ -21,7 +21,7 @@ use Rattle.wire.specs.declared.Decoded.the-variants.{Asked, Malformed}
 use Rattle.wire.specs.declared.Answer.{Answer}
 use Rattle.wire.specs.declared.Answer.the-variants.{Refused, Opened, Value, Stored, Wait, Committed, Abandoned, Aborted}
 use Rattle.wire.proofs.Checks.{Passed}
-use Rattle.desks.specs.Desks.{idle, opened, copyOf, deskIn, beyond}
+use Rattle.desks.specs.Desks.{blank, idle, opened, copyOf, deskIn, beyond}
 use Rattle.desks.specs.declared.Desk.{Desk}
 use Rattle.desks.proofs.Locking.{locked-ways}
 use Rattle.board.specs.Rules.{deskAt, checks, refusal, seen, granted, answered, answer, reading, writing, follow, isGuarded}
@@ -81,8 +81,8 @@ one-desk b ds d k h f e =
     (λ ne. subst (Fine b) (sym (getD-set-other ds d e k beyond ne)) (h e))
 
 -- a desk with nothing written
-blank-fine : (b : Board) (a : Age) (s : Number) → Fine b (opened a s)
-blank-fine b a s i low e = clash e (has-none i)
+blank-fine : (b : Board) (o : ℕ) (a : Age) (s : Number) → Fine b (blank o a s)
+blank-fine b o a s i low e = clash e (has-none i)
 
 -- one more copy
 writing-fine : (b : Board) (k : Desk) (i v : ℕ) → length (k .copies) ≡ 64 → Within b i v → Fine b k → Fine b (writing k i v)
@@ -95,16 +95,17 @@ writing-fine b k i v long w f j low e =
 pub follow-copied : (b : Board) (q : Decoded) → length (deskAt b (deskOf q) .copies) ≡ 64 → Copied b (b .desks) → (a : Answer) → Stores b (valueOf q) a → Copied (follow b q a) (follow b q a .desks)
 unfolding follow
 follow-copied b q long h (Refused n) w = h
-follow-copied b q long h (Opened a s) w = one-desk b (b .desks) (deskOf q) (opened a s) h (blank-fine b a s)
+follow-copied b q long h (Opened a s) w = one-desk b (b .desks) (deskOf q) (opened a s) h (blank-fine b 1 a s)
 follow-copied b q long h (Value i v) w = one-desk b (b .desks) (deskOf q) (reading (deskAt b (deskOf q)) i (isGuarded b i)) h (h (deskOf q))
 follow-copied b q long h (Stored i) w =
     one-desk b (b .desks) (deskOf q) (writing (deskAt b (deskOf q)) i (valueOf q)) h (writing-fine b (deskAt b (deskOf q)) i (valueOf q) long w (h (deskOf q)))
 follow-copied b q long h (Wait i e) w = h
-follow-copied b q long h (Committed n) w = one-desk b (b .desks) (deskOf q) idle h (blank-fine b noAge noNumber)
-follow-copied b q long h Abandoned w = one-desk b (b .desks) (deskOf q) idle h (blank-fine b noAge noNumber)
-follow-copied b q long h (Aborted x) w = one-desk b (b .desks) (deskOf q) idle h (blank-fine b noAge noNumber)
+follow-copied b q long h (Committed n) w = one-desk b (b .desks) (deskOf q) (idle noAge) h (blank-fine b 0 noAge noNumber)
+follow-copied b q long h Abandoned w = one-desk b (b .desks) (deskOf q) (idle noAge) h (blank-fine b 0 noAge noNumber)
+follow-copied b q long h (Aborted x) w =
+    let a = deskAt b (deskOf q) .age in one-desk b (b .desks) (deskOf q) (idle a) h (blank-fine b 0 a noNumber)
 
-idle-copied : (b : Board) (n d : ℕ) → Fine b (deskIn (replicate n idle) d)
+idle-copied : (b : Board) (n d : ℕ) → Fine b (deskIn (replicate n (idle noAge)) d)
 idle-copied b zero d i low e = clash e (has-none i)
 idle-copied b (suc n) zero i low e = clash e (has-none i)
 idle-copied b (suc n) (suc d) i low e = idle-copied b n d i low e

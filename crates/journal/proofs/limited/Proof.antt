@@ -4,7 +4,7 @@ use mathlib.Core.Path.{_≡_, sym}
 use native.Mathlib.Omega.{arith}
 use borrow.Author.Tests.{lt-ltb, le-ltb}
 use Rattle.wire.specs.declared.Answer.the-variants.{Committed}
-use Rattle.desks.specs.Desks.{idle}
+use Rattle.desks.specs.Desks.{beyond}
 use Rattle.records.specs.Records.{sizeOf}
 use Rattle.records.proofs.Sizes.{count-below}
 use Rattle.journal.proofs.Room.{no-commit}
@@ -35,7 +35,7 @@ returns-2 c =
 returns-3 : tie.Need-returns-3
 returns-3 c =
     let a = c .before .args in
-    sym (no-commit (a .used + sizeOf (a .written)) (a .room) idle (a .answer) (c .match .keys2) .0)
+    sym (no-commit (a .used + sizeOf (a .written)) (a .room) beyond (a .answer) (c .match .keys2) .0)
 
 pub limited-spec : {M : Type 1} → statement M
 limited-spec =
