@@ -21,12 +21,12 @@ fn begin(b: Board, d: usize) -> Answer
     ensures { λ r. ⌜ r ≡ answered b d Request.Begin ⌝ }
 {
     let desks = b.desks;
-    let k = desks[d];
-    if is_open(k) {
+    if is_open(desks[d]) {
         return Answer::Refused(4);
     }
     let start = b.number;
-    let kept = k.age;
+    let idle = desks[d];
+    let kept = idle.age;
     if kept.0 != 0 {
         return Answer::Opened(kept, start);
     }

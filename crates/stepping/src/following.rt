@@ -77,6 +77,7 @@ pub fn follow(b: Board, asked: Decoded, answer: Answer) -> Board
 {
     let mut after = b;
     let d = desk_of(asked);
+    let k = after.desks[d];
     match answer {
         Answer::Refused(_) => {}
         Answer::Opened(age, start) => {
@@ -85,14 +86,13 @@ pub fn follow(b: Board, asked: Decoded, answer: Answer) -> Board
         }
         Answer::Value(i, _) => {
             let item = i as usize;
-            after.desks[d] = reading(after.desks[d], item, after.guarded.has(item));
+            after.desks[d] = reading(k, item, after.guarded.has(item));
         }
         Answer::Stored(i) => {
-            after.desks[d] = writing(after.desks[d], i as usize, value_of(asked));
+            after.desks[d] = writing(k, i as usize, value_of(asked));
         }
         Answer::Wait(_, _) => {}
         Answer::Committed(number) => {
-            let k = after.desks[d];
             let old = after.values;
             let values = installed(old, k);
             let written = k.written;
@@ -105,7 +105,6 @@ pub fn follow(b: Board, asked: Decoded, answer: Answer) -> Board
             after.desks[d] = idle(Age::ZERO); // nor does what is abandoned
         }
         Answer::Aborted(_) => {
-            let k = after.desks[d];
             after.desks[d] = idle(k.age); // no copy is left for the desk's next transaction
         }
     }

@@ -1,11 +1,49 @@
--- By the answer: each arm does what the rules do for it.
+-- By the answer: each arm does what the rules do for it. The arms come first, so that a wrong one is named before anything else.
 use borrow.Author.Needs.{needs}
 use Rattle.board.specs.Rules.{follow}
 use Rattle.stepping.proofs.following.follow.Statement.{statement}
 use Rattle.stepping.proofs.following.follow.Tie as tie
 
+returns : tie.Need-returns
+unfolding follow
+returns c = rw (c .enum-told .given .1)
+
+returns-2 : tie.Need-returns-2
+unfolding follow
+returns-2 c = rw (c .before .before .before .before .answer .given .1, c .before .before .before .before .before .before .before .desk-of .ensures, c .before .last-given .ensures, c .opened .ensures)
+
+returns-3 : tie.Need-returns-3
+unfolding follow
+returns-3 c = rw (c .before .before .before .before .answer2 .given .1, c .reading .ensures, c .before .has .ensures, c .before .before .before .before .before .before .before .desk-of .ensures)
+
+returns-4 : tie.Need-returns-4
+unfolding follow
+returns-4 c = rw (c .before .before .before .answer3 .given .1, c .writing .ensures, c .before .value-of .ensures, c .before .before .before .before .before .before .desk-of .ensures)
+
+returns-5 : tie.Need-returns-5
+unfolding follow
+returns-5 c = rw (c .enum-told2 .given .1)
+
+returns-6 : tie.Need-returns-6
+unfolding follow
+returns-6 c = rw (c .before .before .before .before .before .before .answer4 .given .1, c .idle .ensures, c .before .place .ensures, c .before .before .before .installed .ensures, c .before .before .before .before .before .before .before .before .before .desk-of .ensures)
+
+returns-7 : tie.Need-returns-7
+unfolding follow
+returns-7 c = rw (c .before .enum-told3 .given .1, c .before .before .before .before .desk-of .ensures, c .idle2 .ensures)
+
+returns-8 : tie.Need-returns-8
+unfolding follow
+returns-8 c = rw (c .before .enum-told4 .given .1, c .idle3 .ensures, c .before .before .before .before .desk-of .ensures)
+
 desk-of-requires : tie.Need-desk-of-requires
 desk-of-requires c κs = search needs
+
+mul-k : tie.Need-mul-k
+mul-k c = search needs
+
+element-copy-out-k : tie.Need-element-copy-out-k
+element-copy-out-k c = search needs
 
 enum-told : tie.Need-enum-told
 enum-told c = search needs
@@ -19,8 +57,8 @@ last-given-requires c κs = search needs
 opened-requires : tie.Need-opened-requires
 opened-requires c κs = search needs
 
-mul-t20 : tie.Need-mul-t20
-mul-t20 c = search needs
+mul-t23 : tie.Need-mul-t23
+mul-t23 c = search needs
 
 element-set-from-after : tie.Need-element-set-from-after
 element-set-from-after c = search needs
@@ -31,32 +69,20 @@ enum-known-answer-2 c = search needs
 cast-item : tie.Need-cast-item
 cast-item c = search needs
 
-mul-reading : tie.Need-mul-reading
-mul-reading c = search needs
-
-element-copy-out-reading : tie.Need-element-copy-out-reading
-element-copy-out-reading c = search needs
-
 has-requires : tie.Need-has-requires
-has-requires c κs = rw (c .before .before .before .answer2 .given .1) at (c .before .before .before .before .before .before .pre .1)
+has-requires c κs = rw (c .before .before .answer2 .given .1) at (c .before .before .before .before .before .before .pre .1)
 
 reading-requires : tie.Need-reading-requires
-reading-requires c κs = rw (c .before .before .before .before .answer2 .given .1) at (c .before .before .before .before .before .before .before .pre .1)
+reading-requires c κs = rw (c .before .before .before .answer2 .given .1) at (c .before .before .before .before .before .before .before .pre .1)
 
-mul-t30 : tie.Need-mul-t30
-mul-t30 c = search needs
+mul-t29 : tie.Need-mul-t29
+mul-t29 c = search needs
 
 element-set-from-after-2 : tie.Need-element-set-from-after-2
 element-set-from-after-2 c = search needs
 
 enum-known-answer-3 : tie.Need-enum-known-answer-3
 enum-known-answer-3 c = search needs
-
-mul-writing : tie.Need-mul-writing
-mul-writing c = search needs
-
-element-copy-out-writing : tie.Need-element-copy-out-writing
-element-copy-out-writing c = search needs
 
 cast-writing : tie.Need-cast-writing
 cast-writing c = search needs
@@ -65,10 +91,10 @@ value-of-requires : tie.Need-value-of-requires
 value-of-requires c κs = search needs
 
 writing-requires : tie.Need-writing-requires
-writing-requires c κs = rw (c .before .before .before .answer3 .given .1) at (c .before .before .before .before .before .before .pre .1)
+writing-requires c κs = rw (c .before .before .answer3 .given .1) at (c .before .before .before .before .before .before .pre .1)
 
-mul-t40 : tie.Need-mul-t40
-mul-t40 c = search needs
+mul-t35 : tie.Need-mul-t35
+mul-t35 c = search needs
 
 element-set-from-after-3 : tie.Need-element-set-from-after-3
 element-set-from-after-3 c = search needs
@@ -78,12 +104,6 @@ enum-told-2 c = search needs
 
 enum-known-answer-4 : tie.Need-enum-known-answer-4
 enum-known-answer-4 c = search needs
-
-mul-k : tie.Need-mul-k
-mul-k c = search needs
-
-element-copy-out-k : tie.Need-element-copy-out-k
-element-copy-out-k c = search needs
 
 installed-requires : tie.Need-installed-requires
 installed-requires c κs = search needs
@@ -100,20 +120,21 @@ element-set-from-written c = search needs
 idle-requires : tie.Need-idle-requires
 idle-requires c κs = search needs
 
-mul-t47 : tie.Need-mul-t47
-mul-t47 c = search needs
+mul-t38 : tie.Need-mul-t38
+mul-t38 c = search needs
 
 element-set-from-after-4 : tie.Need-element-set-from-after-4
 element-set-from-after-4 c = search needs
 
+-- /work/main/target/rlib/counters.rlib/interface/lang/src/lib.rt:3:24
 enum-told-3 : tie.Need-enum-told-3
 enum-told-3 c = search needs
 
 idle-requires-2 : tie.Need-idle-requires-2
 idle-requires-2 c κs = search needs
 
-mul-t55 : tie.Need-mul-t55
-mul-t55 c = search needs
+mul-t48 : tie.Need-mul-t48
+mul-t48 c = search needs
 
 element-set-from-after-5 : tie.Need-element-set-from-after-5
 element-set-from-after-5 c = search needs
@@ -121,100 +142,56 @@ element-set-from-after-5 c = search needs
 enum-told-4 : tie.Need-enum-told-4
 enum-told-4 c = search needs
 
-mul-k-2 : tie.Need-mul-k-2
-mul-k-2 c = search needs
-
-element-copy-out-k-2 : tie.Need-element-copy-out-k-2
-element-copy-out-k-2 c = search needs
-
 idle-requires-3 : tie.Need-idle-requires-3
 idle-requires-3 c κs = search needs
 
-mul-t58 : tie.Need-mul-t58
-mul-t58 c = search needs
+mul-t52 : tie.Need-mul-t52
+mul-t52 c = search needs
 
 element-set-from-after-6 : tie.Need-element-set-from-after-6
 element-set-from-after-6 c = search needs
-
-returns : tie.Need-returns
-unfolding follow
-returns c = rw (c .enum-told .given .1)
-
-returns-2 : tie.Need-returns-2
-unfolding follow
-returns-2 c = rw (c .before .before .before .before .answer .given .1, c .before .before .before .before .before .before .desk-of .ensures, c .before .last-given .ensures, c .opened .ensures)
-
-returns-3 : tie.Need-returns-3
-unfolding follow
-returns-3 c = rw (c .before .before .before .before .before .answer2 .given .1, c .reading .ensures, c .before .has .ensures, c .before .before .before .before .before .before .before .desk-of .ensures)
-
-returns-4 : tie.Need-returns-4
-unfolding follow
-returns-4 c = rw (c .before .before .before .before .answer3 .given .1, c .writing .ensures, c .before .value-of .ensures, c .before .before .before .before .before .before .desk-of .ensures)
-
-returns-5 : tie.Need-returns-5
-unfolding follow
-returns-5 c = rw (c .enum-told2 .given .1)
-
-returns-6 : tie.Need-returns-6
-unfolding follow
-returns-6 c = rw (c .before .before .before .before .before .before .before .answer4 .given .1, c .idle .ensures, c .before .place .ensures, c .before .before .before .installed .ensures, c .before .before .before .before .before .before .before .before .before .desk-of .ensures)
-
-returns-7 : tie.Need-returns-7
-unfolding follow
-returns-7 c = rw (c .before .enum-told3 .given .1, c .before .before .before .desk-of .ensures, c .idle2 .ensures)
-
-returns-8 : tie.Need-returns-8
-unfolding follow
-returns-8 c = rw (c .before .before .enum-told4 .given .1, c .idle3 .ensures, c .before .before .before .before .desk-of .ensures)
 
 pub follow-spec : {M : Type 1} → statement M
 follow-spec =
     tie.close
     (tie.spec
     desk-of-requires
+    mul-k
+    element-copy-out-k
     enum-told
     enum-known-answer
     last-given-requires
     opened-requires
-    mul-t20
+    mul-t23
     element-set-from-after
     enum-known-answer-2
     cast-item
-    mul-reading
-    element-copy-out-reading
     has-requires
     reading-requires
-    mul-t30
+    mul-t29
     element-set-from-after-2
     enum-known-answer-3
-    mul-writing
-    element-copy-out-writing
     cast-writing
     value-of-requires
     writing-requires
-    mul-t40
+    mul-t35
     element-set-from-after-3
     enum-told-2
     enum-known-answer-4
-    mul-k
-    element-copy-out-k
     installed-requires
     place-requires
     mul-written
     element-set-from-written
     idle-requires
-    mul-t47
+    mul-t38
     element-set-from-after-4
     enum-told-3
     idle-requires-2
-    mul-t55
+    mul-t48
     element-set-from-after-5
     enum-told-4
-    mul-k-2
-    element-copy-out-k-2
     idle-requires-3
-    mul-t58
+    mul-t52
     element-set-from-after-6
     returns
     returns-2
