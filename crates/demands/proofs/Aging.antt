@@ -1,6 +1,5 @@
 -- An aborted desk keeps its age, since no other desk's request reaches its record; and a yield names an older desk, which the oldest has not.
 use mathlib.Core.Path.{_≡_, refl, sym, ap, _∙_, subst}
-use mathlib.Core.Logic.{_≢_}
 use mathlib.Core.Bool.{true, false}
 use mathlib.Core.List.{List, [], _∷_}
 use Prim.Native.Nat.{ℕ, _<_}

@@ -18,12 +18,12 @@ use Rattle.recovery.specs.Journaled.{lacksRoom, Replays}
 use Rattle.recovery.proofs.Step.{next-lacks, reply-lacks, reply-roomy, board-roomy}
 
 -- the requests that found room, or needed none
-abbrev heard : Ledger → List (List ℕ) → List (List ℕ)
+abbrev pub heard : Ledger → List (List ℕ) → List (List ℕ)
 heard l [] = []
 heard l (q ∷ qs) = let rest = heard (next l q) qs in cond (lacksRoom l q) rest (q ∷ rest)
 
 -- they leave the same board
-heard-board : (l : Ledger) (qs : List (List ℕ)) → after next l qs .kept .board ≡ after Rules.next (l .kept .board) (heard l qs)
+pub heard-board : (l : Ledger) (qs : List (List ℕ)) → after next l qs .kept .board ≡ after Rules.next (l .kept .board) (heard l qs)
 heard-board l [] = refl
 heard-board l (q ∷ qs) =
     let rest = heard (next l q) qs in

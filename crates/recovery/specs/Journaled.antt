@@ -10,11 +10,18 @@ use lib.ListN.{length, take, drop}
 use Rattle.runs.specs.Runs.{after, Exchanged}
 use Rattle.wire.specs.Requests.{decode}
 use Rattle.table.specs.Table.{wrong}
-use Rattle.wire.specs.declared.Answer.the-variants.{Refused}
+use Rattle.wire.specs.declared.Request.{Request}
+use Rattle.wire.specs.declared.Request.the-variants.{Begin}
+use Rattle.wire.specs.declared.Decoded.the-variants.{Asked}
+use Rattle.wire.specs.declared.Reason.{Reason}
+use Rattle.wire.specs.declared.Reason.the-variants.{Yield}
+use Rattle.wire.specs.declared.Answer.the-variants.{Refused, Opened, Aborted}
 use Rattle.board.specs.Rules as Rules
 use Rattle.board.specs.declared.Board.{Board}
 use Rattle.demands.specs.History.{RunReplays}
 use Rattle.demands.specs.Demands.{changesNothing, Apart}
+use Rattle.demands.specs.Waiting.{NamesHolder}
+use Rattle.demands.specs.Keeping.{NoneFrom, NoneOlder}
 use Rattle.records.specs.Records.{sizeOf, room}
 use Rattle.journal.specs.Journal.{commits, asking, Ledger, opened, next, reply}
 
@@ -73,3 +80,26 @@ Exchanges =
     (table : List ℕ) → wrong table ≡ false → (journal : List ℕ) (before : List (List ℕ)) (p q : List ℕ) (later : List (List ℕ))
     → Apart (after next (opened table journal) before .kept .board) (decode p) (decode q)
     → Exchanged next reply (opened table journal) before p q later
+
+-- ---- whom a desk waits for or yields to, and what its age is worth to it: as without a journal
+
+abbrev pub NamesTheOldest : Type 0
+NamesTheOldest =
+    (table : List ℕ) → wrong table ≡ false → (journal : List ℕ) (before : List (List ℕ)) (q : List ℕ) (d : ℕ) (r : Request)
+    → let l = after next (opened table journal) before in
+    decode q ≡ Asked d r → NamesHolder (l .kept .board) d r (reply l q)
+
+abbrev pub OldestNeverYields : Type 0
+OldestNeverYields =
+    (table : List ℕ) → wrong table ≡ false → (journal : List ℕ) (before : List (List ℕ)) (q : List ℕ) (d : ℕ) (r : Request)
+    → let l = after next (opened table journal) before in
+    decode q ≡ Asked d r → NoneOlder (l .kept .board) d → (i e : ℕ) → reply l q ≢ Aborted (Yield i e)
+
+abbrev pub KeepsItsAge : Type 0
+KeepsItsAge =
+    (table : List ℕ) → wrong table ≡ false → (journal : List ℕ) (before : List (List ℕ)) (q : List ℕ) (later : List (List ℕ)) (again : List ℕ)
+    → (d : ℕ) (r : Request) (w : Reason)
+    → let l = after next (opened table journal) before in
+    let m = after next (next l q) later in
+    decode q ≡ Asked d r → reply l q ≡ Aborted w → NoneFrom d later → decode again ≡ Asked d Begin
+    → reply m again ≡ Opened (Rules.deskAt (l .kept .board) d .age) (m .kept .board .number)
