@@ -1,4 +1,4 @@
--- The ages of the desks: none is above the last one given, and no two desks have the same but 0.
+-- The ages of the desks, open or idle: none is above the last one given, and no two desks have the same but 0.
 use mathlib.Core.Path.{_≡_, refl, sym, ap, _∙_}
 use mathlib.Core.Logic.{_≢_}
 use mathlib.Core.List.{List}
