@@ -108,19 +108,26 @@ answer b (Asked d r) = answered b d r
 
 -- ---- the board after it
 
-abbrev pub put : Board → ℕ → Desk → Board
-put b d k =
+-- with another last age, or other desks, or another record of desk d
+abbrev pub withAge : Board → Age → Board
+withAge b a =
     record
-    { values = b .values; floors = b .floors; ceilings = b .ceilings; guarded = b .guarded; age = b .age; number = b .number; sets = b .sets; desks = set (b .desks) d k }
+    { values = b .values; floors = b .floors; ceilings = b .ceilings; guarded = b .guarded; age = a; number = b .number; sets = b .sets; desks = b .desks }
+
+abbrev pub withDesks : Board → List Desk → Board
+withDesks b ds =
+    record
+    { values = b .values; floors = b .floors; ceilings = b .ceilings; guarded = b .guarded; age = b .age; number = b .number; sets = b .sets; desks = ds }
+
+abbrev pub put : Board → ℕ → Desk → Board
+put b d k = withDesks b (set (b .desks) d k)
 
 -- the last age given: a new age is above it, and one that was kept is not
 abbrev pub lastGiven : Age → Age → Age
 lastGiven last a = cond (ltb (last .0) (a .0)) a last
 
 abbrev pub begun : Board → ℕ → Age → Number → Board
-begun b d a s =
-    record
-    { values = b .values; floors = b .floors; ceilings = b .ceilings; guarded = b .guarded; age = lastGiven (b .age) a; number = b .number; sets = b .sets; desks = set (b .desks) d (opened a s) }
+begun b d a s = put (withAge b (lastGiven (b .age) a)) d (opened a s)
 
 -- an open item joins the open-read set; a guarded one, which g tells, joins the shared set if the desk has not written it
 abbrev pub reading : Desk → ℕ → Bool → Desk

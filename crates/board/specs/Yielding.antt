@@ -3,13 +3,12 @@ use Prim.Native.Nat.{ℕ, _+_, _*_}
 use mathlib.Core.Path.{_≡_, refl}
 use mathlib.Core.Bool.{cond}
 use mathlib.Core.List.{List, [], _∷_, _++_, map}
-use lib.ListN.{set}
 use Rattle.runs.specs.Runs.{answers}
 use Rattle.counters.specs.Counters.{noAge}
 use Rattle.wire.specs.Answers.{fields}
 use Rattle.desks.specs.Desks.{idle, isOpen}
 use Rattle.desks.specs.declared.Desk.{Desk}
-use Rattle.board.specs.Rules.{next, reply}
+use Rattle.board.specs.Rules.{withAge, withDesks, put, next, reply}
 use Rattle.board.specs.Opening.{opening}
 use Rattle.board.specs.Example.{table, computing, begin, write, end}
 use Rattle.board.specs.declared.Board.{Board}
@@ -24,9 +23,7 @@ abbrev forgets : Desk → Desk
 forgets k = cond (isOpen k) k (idle noAge)
 
 abbrev forgetting : Board → Board
-forgetting b =
-    record
-    { values = b .values; floors = b .floors; ceilings = b .ceilings; guarded = b .guarded; age = b .age; number = b .number; sets = b .sets; desks = map forgets (b .desks) }
+forgetting b = withDesks b (map forgets (b .desks))
 
 -- round n, the first being round 0: desk 0 gets a younger age than desk 1, yields to it, and is no longer there when the item is free
 abbrev lost : ℕ → List (List ℕ)
@@ -68,10 +65,7 @@ served-at-last = refl
 -- ---- after age 2,000 was given: a desk that keeps age 7 still begins, and one that keeps none is refused 9
 
 abbrev late : Board
-late =
-    let b = opening table in
-    record
-    { values = b .values; floors = b .floors; ceilings = b .ceilings; guarded = b .guarded; age = record { 0 = 2000 }; number = b .number; sets = b .sets; desks = set (b .desks) 0 (idle (record { 0 = 7 })) }
+late = put (withAge (opening table) (record { 0 = 2000 })) 0 (idle (record { 0 = 7 }))
 
 pub late-begins : map fields (answers next reply late (begin 0 ∷ begin 1 ∷ [])) ≡ (1 ∷ 0 ∷ 0 ∷ 7 ∷ 0 ∷ []) ∷ (0 ∷ 0 ∷ 9 ∷ 0 ∷ 0 ∷ []) ∷ []
 unfolding computing

@@ -2,7 +2,6 @@
 use mathlib.Core.Path.{_≡_, refl, sym, ap, _∙_}
 use mathlib.Core.Logic.{_≢_}
 use mathlib.Core.Bool.{true, false}
-use mathlib.Core.List.{List}
 use Prim.Native.Nat.{ℕ}
 use lib.ListN.{getD, set}
 use lib.Seq.{set-getD, set-comm, getD-set-other}
@@ -18,7 +17,7 @@ use Rattle.wire.specs.declared.Decoded.{Decoded}
 use Rattle.wire.specs.declared.Answer.{Answer}
 use Rattle.wire.specs.declared.Answer.the-variants.{Refused, Opened, Value, Stored, Wait, Committed, Abandoned, Aborted}
 use Rattle.desks.specs.Desks.{beyond, idle, opened, copyOf}
-use Rattle.board.specs.Rules.{reading, writing, deskAt, put, begun, committed, answer, follow, step}
+use Rattle.board.specs.Rules.{reading, writing, deskAt, withDesks, put, begun, committed, answer, follow, step}
 use Rattle.demands.specs.Demands.{bound, changesNothing, Unchanged}
 use Rattle.desks.specs.declared.Desk.{Desk}
 use Rattle.board.specs.declared.Board.{Board}
@@ -51,12 +50,6 @@ pub data Kind : Answer → Type 0 where
   opens : (a : Age) (s : Number) → Kind (Opened a s)
   commits : (n : Number) → Kind (Committed n)
   own : {a : Answer} → Own a → Kind a
-
--- a board with other desks
-abbrev withDesks : Board → List Desk → Board
-withDesks b ds =
-    record
-    { values = b .values; floors = b .floors; ceilings = b .ceilings; guarded = b .guarded; age = b .age; number = b .number; sets = b .sets; desks = ds }
 
 put-same : (b : Board) (d : ℕ) → b ≡ put b d (deskAt b d)
 put-same b d = sym (ap (withDesks b) (set-getD (b .desks) d beyond))

@@ -18,7 +18,7 @@ use Rattle.runs.proofs.Account.{Account}
 use Rattle.runs.proofs.Since.{since, wroteBy}
 use Rattle.counters.specs.declared.Age.{Age}
 use Rattle.desks.specs.Desks.{beyond, deskIn, copyOf}
-use Rattle.board.specs.Rules.{writeSet}
+use Rattle.board.specs.Rules.{writeSet, withAge, withDesks}
 use Rattle.demands.specs.History.{History}
 use Rattle.desks.specs.declared.Desk.{Desk}
 use Rattle.board.specs.declared.Board.{Board}
@@ -81,12 +81,7 @@ pub record Inv (opening : List ℕ) (b : Board) (h : History) : Type 0 where
 -- the desks change, and nothing is committed
 pub reseated :
     {opening : List ℕ} {b : Board} {h : History} → Inv opening b h → {a : Age} {desks : List Desk} {logs : List (List Op)}
-    → Sound
-    (record
-    { values = b .values; floors = b .floors; ceilings = b .ceilings; guarded = b .guarded; age = a; number = b .number; sets = b .sets; desks = desks })
+    → Sound (withDesks (withAge b a) desks)
     → Accounts (b .values) (b .guarded) (overwritten (b .guarded) (h .done)) desks logs
-    → Inv opening
-    (record
-    { values = b .values; floors = b .floors; ceilings = b .ceilings; guarded = b .guarded; age = a; number = b .number; sets = b .sets; desks = desks })
-    (record { logs = logs; done = h .done })
+    → Inv opening (withDesks (withAge b a) desks) (record { logs = logs; done = h .done })
 reseated inv sound accounts = record { sound = sound; ledger = inv .ledger; kept = inv .kept; accounts = accounts }
