@@ -2,10 +2,12 @@
 
 use crate::{Item, Kind, Set, DESKS, ITEMS, KEPT};
 
-/// A desk. With nothing open, everything is at zero or empty.
+/// A desk. With nothing open, everything is at zero or empty, but for an age
+/// that an abort left to it.
 #[derive(Clone, PartialEq, Eq)]
 pub struct Desk {
     pub open: bool,
+    /// Of the open transaction, or kept for the next one.
     pub age: u32,
     pub start: u32,
     /// Open items read: the set that is tested at the end.
@@ -28,7 +30,14 @@ impl Desk {
         shared: Set::EMPTY,
     };
 
+    /// After a commit or an abandon nothing is left.
     pub fn free(&mut self) {
+        self.free_keeping_age();
+        self.age = 0;
+    }
+
+    /// After an abort the age alone is left.
+    pub fn free_keeping_age(&mut self) {
         for item in self.written.members() {
             self.copies[item] = 0;
         }
@@ -36,8 +45,12 @@ impl Desk {
         self.written.clear();
         self.shared.clear();
         self.open = false;
-        self.age = 0;
         self.start = 0;
+    }
+
+    /// The age that an abort left to a desk with nothing open.
+    pub fn kept_age(&self) -> Option<u32> {
+        (!self.open && self.age != 0).then_some(self.age)
     }
 
     pub fn touched(&self, item: usize) -> bool {
@@ -75,6 +88,15 @@ impl Board {
     /// The write set of one of the last 16 numbers.
     pub fn write_set(&self, number: u32) -> &Set {
         &self.write_sets[(number % KEPT) as usize]
+    }
+
+    /// The age of the desk's next transaction: the one that it kept, else a new
+    /// one.
+    pub(crate) fn take_age(&mut self, desk: usize) -> u32 {
+        self.desks[desk].kept_age().unwrap_or_else(|| {
+            self.last_age += 1;
+            self.last_age
+        })
     }
 
     /// Takes the next number for the desk's write set, installs its copies

@@ -5,7 +5,7 @@ use crate::{Answer, Board, Journal, KEPT};
 /// With a journal, a commit that it has no room for is refused and stays open.
 pub fn end(board: &mut Board, desk: usize, journal: Option<&mut Journal>) -> Answer {
     if let Some(reason) = fails(board, desk) {
-        board.desks[desk].free();
+        board.desks[desk].free_keeping_age();
         return reason;
     }
     if let Some(journal) = journal {

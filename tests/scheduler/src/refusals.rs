@@ -16,12 +16,12 @@ pub fn refusal(board: &Board, request: &Request) -> Option<u8> {
     if request.spare != 0 || item_stray || value_stray {
         return Some(3);
     }
-    let open = board.desks[request.desk as usize].open;
+    let desk = &board.desks[request.desk as usize];
     let begins = request.kind == Request::BEGIN;
-    if begins && open {
+    if begins && desk.open {
         return Some(4);
     }
-    if !begins && !open {
+    if !begins && !desk.open {
         return Some(5);
     }
     if request.uses_item() && request.item as usize >= ITEMS {
@@ -36,7 +36,7 @@ pub fn refusal(board: &Board, request: &Request) -> Option<u8> {
             return Some(8);
         }
     }
-    if begins && board.last_age >= LAST_AGE {
+    if begins && desk.kept_age().is_none() && board.last_age >= LAST_AGE {
         return Some(9);
     }
     None

@@ -45,8 +45,7 @@ fn serve(board: &mut Board, request: &Request, journal: Option<&mut Journal>) ->
 }
 
 fn begin(board: &mut Board, desk: usize) -> Answer {
-    board.last_age += 1;
-    let (age, start) = (board.last_age, board.last_number);
+    let (age, start) = (board.take_age(desk), board.last_number);
     let desk = &mut board.desks[desk];
     desk.open = true;
     desk.age = age;
@@ -93,6 +92,6 @@ fn write(board: &mut Board, desk: usize, item: u8, value: u32) -> Answer {
 }
 
 fn give_way(board: &mut Board, desk: usize, item: u8, holder: usize) -> Answer {
-    board.desks[desk].free();
+    board.desks[desk].free_keeping_age();
     Answer::Yield { item, holder }
 }

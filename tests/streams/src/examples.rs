@@ -1,8 +1,10 @@
 //! The outline's own cases, all on its table: the worked example, P1 to P13,
-//! no requests, the easy errors, and whom a desk waits for or yields to.
+//! no requests, the easy errors, whom a desk waits for or yields to, and the
+//! age that an aborted desk keeps.
 
 use crate::errors::{copies, easy_errors};
 use crate::holders::holders;
+use crate::kept::kept;
 use crate::{begin, end, read, write};
 
 /// Desk, code, item, reason, first, second: a printed line.
@@ -23,6 +25,7 @@ pub fn examples() -> Vec<Example> {
     all.extend(ages_of_reads());
     all.extend(locks());
     all.extend(holders());
+    all.extend(kept());
     all.extend(copies());
     all.extend(easy_errors());
     all
@@ -93,7 +96,7 @@ fn limits() -> Vec<Example> {
 
 /// Desk 0 begins and makes its requests; then come commits of desk 1 which
 /// write item 2; then desk 0 ends.
-fn after_commits(first: &[[u8; 8]], commits: usize) -> Vec<[u8; 8]> {
+pub(crate) fn after_commits(first: &[[u8; 8]], commits: usize) -> Vec<[u8; 8]> {
     let mut requests = vec![begin(0)];
     requests.extend(first);
     for _ in 0..commits {

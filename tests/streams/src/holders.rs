@@ -95,7 +95,7 @@ fn several_holders() -> Vec<Example> {
             ],
         ),
         example(
-            "who began again is the youngest",
+            "who committed and began again is the youngest",
             shared_by_three(&[end(9), begin(9), read(9, 1), write(6, 1, 1)]),
             &[[6, 4, 1, 0, 4, 0]],
         ),

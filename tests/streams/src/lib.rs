@@ -11,6 +11,7 @@ pub mod examples;
 mod guarded;
 mod history;
 mod holders;
+mod kept;
 mod limits;
 mod mixed;
 mod mutated;
