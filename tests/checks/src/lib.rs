@@ -1,5 +1,6 @@
 //! What the tests, the fuzzer and the benchmark share.
 
+mod ages;
 mod cases;
 mod compare;
 mod coverage;
@@ -13,6 +14,7 @@ mod rebuild;
 mod shrink;
 mod words;
 
+pub use ages::{Aged, Ages};
 pub use cases::{chosen, each, sized};
 pub use compare::{compare, library_run, Outcome};
 pub use coverage::Coverage;

@@ -21,9 +21,7 @@ pub fn ages(random: &mut Random) -> Case {
         if !hall.board.desks[desk].open {
             hall.put(begin(desk as u8));
         }
-        if hall.length() + 2 * (shortly - hall.board.last_age) as usize + 40 < 4_096
-            && random.chance(30)
-        {
+        if hall.length() + needed(&hall, shortly) + 40 < 4_096 && random.chance(30) {
             let request = hall.work(desk as u8, &manners, random);
             hall.put(request);
         }
@@ -44,4 +42,11 @@ pub fn ages(random: &mut Random) -> Case {
         }
     }
     Case::new(table, hall.requests, random)
+}
+
+/// A begin and a finish for each age up to this one, and for each kept age.
+fn needed(hall: &Hall, age: u32) -> usize {
+    let desks = hall.board.desks.iter();
+    let kept = desks.filter(|desk| desk.kept_age().is_some()).count();
+    2 * ((age - hall.board.last_age) as usize + kept)
 }

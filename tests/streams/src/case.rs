@@ -1,6 +1,6 @@
 //! A case: what one run is given, and the generator and seed it came from.
 
-use crate::{ages, damage, door, guarded, history, limits, mixed, mutated, room, Random};
+use crate::{again, ages, damage, door, guarded, history, limits, mixed, mutated, room, Random};
 
 #[derive(Clone)]
 pub struct Case {
@@ -57,7 +57,9 @@ pub const GENERATORS: &[Generator] = &[
     generator("full", 1_200, mixed::full),
     generator("guarded", 16_000, guarded::guarded),
     generator("history", 12_000, history::history),
+    generator("again", 8_000, again::again),
     generator("ages", 240, ages::ages),
+    generator("last", 240, again::last),
     generator("limits", 12_000, limits::limits),
     generator("junk", 8_000, damage::junk),
     generator("nearly", 4_000, damage::nearly),

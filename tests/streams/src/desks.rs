@@ -1,5 +1,5 @@
 //! Desks that behave: they begin, read and write, and end, they ask again
-//! when told to wait, and they begin anew after an abort. To know what they
+//! when told to wait, and they begin again after an abort. To know what they
 //! are told, they put each request to the second scheduler.
 
 use crate::{begin, end, read, write, Random};
@@ -99,6 +99,10 @@ impl Hall {
     /// Lets some desk put its next request.
     pub fn go_on(&mut self, manners: &Manners, random: &mut Random) {
         let desk = random.below(manners.desks);
+        self.go_on_at(desk, manners, random);
+    }
+
+    pub fn go_on_at(&mut self, desk: usize, manners: &Manners, random: &mut Random) {
         let name = desk as u8;
         let request = if random.chance(manners.slips) {
             self.slip(name, manners, random)

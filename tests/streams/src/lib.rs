@@ -1,6 +1,7 @@
 //! Random request streams for the hub. A generator's name and a seed give
 //! the whole case, so any failure can be made again from these two.
 
+mod again;
 mod ages;
 mod case;
 mod damage;

@@ -1,12 +1,13 @@
 //! Cases of the other generators, changed at random in their structure: the
 //! fuzzer's source.
 
-use crate::{ages, damage, door, guarded, history, limits, mixed, room, Case, Random};
+use crate::{again, ages, damage, door, guarded, history, limits, mixed, room, Case, Random};
 
-const SOURCES: [fn(&mut Random) -> Case; 9] = [
+const SOURCES: [fn(&mut Random) -> Case; 10] = [
     mixed::mixed,
     mixed::outline,
     guarded::guarded,
+    again::again,
     history::history,
     limits::limits,
     damage::nearly,
@@ -20,7 +21,7 @@ const BYTES: [u8; 16] = [0, 1, 2, 3, 4, 5, 6, 14, 15, 16, 62, 63, 64, 127, 128, 
 pub fn mutated(random: &mut Random) -> Case {
     // Runs to the last age are long, so they are few.
     let mut case = match random.below(200) {
-        0 => ages::ages(random),
+        0 => random.pick(&[ages::ages, again::last])(random),
         _ => random.pick(&SOURCES)(random),
     };
     for _ in 0..random.pick(&[1, 1, 2, 4, 16, 64]) {
