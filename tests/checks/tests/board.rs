@@ -53,10 +53,11 @@ fn a_refused_opening_keeps_every_byte() {
 }
 
 /// Wherever a stream stands, a transaction that worked and was abandoned
-/// leaves the same board as one that did nothing.
+/// leaves the same board as one that did nothing. If it was aborted on the way
+/// and has begun again, it stands where it stood when it had just begun.
 #[test]
 fn an_abandoned_transaction_leaves_nothing() {
-    let mut seen = 0;
+    let (mut seen, mut aborted) = (0, 0);
     each(20, |case| {
         let Ok(mut board) = Board::open(&case.table) else {
             return;
@@ -68,27 +69,34 @@ fn an_abandoned_transaction_leaves_nothing() {
         });
         let desk = random.below(16) as u8;
         board.step(&abandon(desk));
-        if board.step(&begin(desk))[0] != 1 {
+        let opened = board.step(&begin(desk));
+        if opened[0] != 1 {
             return;
         }
+        let begun = board.clone();
         let mut idle = board.clone();
         idle.step(&abandon(desk));
         for _ in 0..random.within(1, 20) {
             let item = random.below(64);
             let value = &case.table[item * 16 + 4..item * 16 + 8];
             let value = u32::from_le_bytes(value.try_into().unwrap());
-            board.step(&if random.chance(50) {
+            let answer = board.step(&if random.chance(50) {
                 read(desk, item as u8)
             } else {
                 write(desk, item as u8, value)
             });
+            if answer[0] == 7 {
+                assert_eq!(board.step(&begin(desk)), opened, "{}", checks::rerun(case));
+                assert!(board == begun, "{}", checks::rerun(case));
+                aborted += 1;
+            }
         }
-        // Refused if a lock was yielded before, and then it changes nothing.
-        board.step(&abandon(desk));
+        assert_eq!(board.step(&abandon(desk))[0], 6, "{}", checks::rerun(case));
         assert!(board == idle, "{}", checks::rerun(case));
         seen += 1;
     });
-    assert!(checks::chosen().is_some() || seen > 500);
+    println!("{seen} abandoned, {aborted} aborted on the way");
+    assert!(checks::chosen().is_some() || (seen > 500 && aborted > 300));
 }
 
 /// A sole sharer that writes holds the item alone and no longer shared, so

@@ -72,6 +72,7 @@ fn library_equals_scheduler() {
     println!("{coverage:?}");
     assert!(coverage.refusals[15] >= 2_000);
     assert!(coverage.codes.iter().all(|&count| count >= 50));
+    assert!(coverage.kept[1..].iter().all(|&count| count >= 50));
 }
 
 /// Every length up to what a run needs and a little beyond.

@@ -1,6 +1,6 @@
 //! Desks are told apart by their ages alone: if all desks change names, the
 //! answers change the desks they name and nothing else, and once all desks are
-//! free the board doesn't tell who did what.
+//! free and keep no age the board doesn't tell who did what.
 
 use checks::{each, library_run, named_holder, rerun};
 use streams::{Case, Random};
@@ -32,7 +32,8 @@ fn renamed_answer(answer: &[u8], names: &[u8]) -> Vec<u8> {
     renamed
 }
 
-fn check(case: &Case) -> Result<(), String> {
+/// How many kept ages were dropped before the boards were compared.
+fn check(case: &Case) -> Result<usize, String> {
     let names = new_names(&mut Random::new(case.seed ^ 0x4A3E));
     let other = renamed(case, &names);
     let (run, other_run) = (library_run(case)?, library_run(&other)?);
@@ -49,33 +50,53 @@ fn check(case: &Case) -> Result<(), String> {
 }
 
 #[cfg(feature = "steps")]
-fn same_board(case: &Case, other: &Case) -> Result<(), String> {
-    let all_free = |case: &Case| {
-        let mut board = library::Board::open(&case.table).ok()?;
-        for request in case.records() {
-            board.step(request);
-        }
-        for desk in 0..16 {
-            board.step(&streams::abandon(desk));
-        }
-        Some(board)
+fn same_board(case: &Case, other: &Case) -> Result<usize, String> {
+    let (Some(one), Some(two)) = (all_free(case)?, all_free(other)?) else {
+        return Ok(0);
     };
-    if all_free(case) != all_free(other) {
+    if one != two {
         return Err("a free desk left a trace on the board".to_string());
     }
-    Ok(())
+    Ok(one.1)
+}
+
+/// The board after the case, once all desks are free and keep no age, and how
+/// many had kept one: such a desk drops it by a begin and an abandon, which
+/// take no new age.
+#[cfg(feature = "steps")]
+fn all_free(case: &Case) -> Result<Option<(library::Board, usize)>, String> {
+    let Ok(mut board) = library::Board::open(&case.table) else {
+        return Ok(None);
+    };
+    let mut ages = checks::Ages::default();
+    for request in case.records() {
+        ages.follow(&board.step(request));
+    }
+    for desk in 0..16 {
+        board.step(&streams::abandon(desk));
+    }
+    for desk in ages.keepers() {
+        if board.step(&streams::begin(desk))[0] != 1 {
+            return Err(format!("desk {desk} has kept an age and can't begin"));
+        }
+        board.step(&streams::abandon(desk));
+    }
+    Ok(Some((board, ages.keepers().count())))
 }
 
 #[cfg(not(feature = "steps"))]
-fn same_board(_: &Case, _: &Case) -> Result<(), String> {
-    Ok(())
+fn same_board(_: &Case, _: &Case) -> Result<usize, String> {
+    Ok(0)
 }
 
 #[test]
 fn desks_may_change_names() {
-    each(8, |case| {
-        if let Err(why) = check(case) {
-            panic!("{}\n{why}", rerun(case));
-        }
+    let mut kept = 0;
+    each(8, |case| match check(case) {
+        Ok(more) => kept += more,
+        Err(why) => panic!("{}\n{why}", rerun(case)),
     });
+    println!("{kept} kept ages were dropped");
+    let counted = cfg!(feature = "steps") && checks::chosen().is_none();
+    assert!(!counted || kept > 1_000);
 }

@@ -6,7 +6,7 @@ use checks::{
     chosen, closings, compare_restart, each, library_run_journal, rerun, values_after, Fenced,
 };
 use scheduler::{record, CLOSING, WRITTEN};
-use streams::{begin, end, outline_table, random_table, row, write, Case, Random, Shape};
+use streams::{begin, end, outline_table, random_table, read, row, write, Case, Random, Shape};
 
 type Record = [u8; 8];
 
@@ -435,10 +435,12 @@ fn a_restart_of_a_restart() {
     assert!(chosen().is_some() || commits > 5_000);
 }
 
-/// A restarted board is the one that hub_open makes of the restarted table.
+/// A restarted board is the one that hub_open makes of the restarted table;
+/// the age that desk 4 had kept is gone.
 #[test]
 fn the_restarted_board_is_a_fresh_one() {
-    let requests = [begin(3), write(3, 0, 115), write(3, 9, 4), end(3)];
+    let mut requests = vec![begin(3), begin(4), read(4, 0), write(3, 0, 115)];
+    requests.extend([write(3, 9, 4), end(3), begin(5), end(4)]);
     let mut journal = [0; 100];
     let mut board = library::Journaled::open(&outline_table(), &mut journal).expect("right");
     requests.iter().for_each(|request| {
@@ -450,8 +452,13 @@ fn the_restarted_board_is_a_fresh_one() {
     by_hand[8] = 115;
     by_hand[9 * 16 + 8] = 4;
     assert_eq!(table, by_hand);
-    let restarted = library::Journaled::open(&table, &mut journal).expect("right");
+    let kept = board.clone().step(&begin(4), &mut journal);
+    assert_eq!(kept, [1, 4, 0, 0, 2, 0, 0, 0, 1, 0, 0, 0]);
+    let restarted = library::Journaled::open_in(board.into_space(), &table, &mut journal);
+    let mut restarted = restarted.expect("right");
     let fresh = library::Board::open(&by_hand).expect("right");
     assert!(restarted.bytes() == fresh.bytes() && restarted.used() == 0);
     assert_eq!(journal, [0; 100]);
+    let begun = restarted.step(&begin(4), &mut journal);
+    assert_eq!(begun, [1, 4, 0, 0, 1, 0, 0, 0, 0, 0, 0, 0]);
 }

@@ -122,6 +122,30 @@ fn its_locks_stay() {
     assert_eq!(desk.ask(read(7, 1)), (2, 0, 0));
 }
 
+/// A transaction with a kept age that lacks room is open, as old as it was,
+/// and drops its age when it is abandoned.
+#[test]
+fn its_age_stays() {
+    let mut desk = Desk::open(8);
+    desk.ask(begin(7));
+    desk.ask(write(7, 1, 1));
+    assert_eq!(desk.ask(begin(8)), (1, 0, 2));
+    assert_eq!(desk.ask(read(8, 1)), (7, 3, 7));
+    assert_eq!(desk.ask(abandon(7)), ABANDONED);
+    assert_eq!(desk.ask(begin(9)), (1, 0, 3));
+    assert_eq!(desk.ask(begin(8)), (1, 0, 2));
+    assert_eq!(desk.ask(write(8, 1, 1)), (3, 0, 0));
+    assert_eq!(desk.ask(end(8)), LACKS_ROOM);
+    assert_eq!(desk.ask(begin(8)), (0, 4, 0));
+    assert_eq!(desk.ask(read(9, 1)), (7, 3, 8));
+    assert_eq!(desk.ask(begin(9)), (1, 0, 3));
+    assert_eq!(desk.ask(end(8)), LACKS_ROOM);
+    assert_eq!(desk.ask(abandon(8)), ABANDONED);
+    assert_eq!(desk.ask(begin(8)), (1, 0, 4));
+    assert_eq!(desk.ask(write(9, 1, 1)), (3, 0, 0));
+    assert_eq!(desk.ask(read(8, 1)), (7, 3, 9));
+}
+
 /// Room is asked for after validation: who can't commit is aborted.
 #[test]
 fn an_end_that_fails_is_aborted_without_room() {
@@ -133,6 +157,7 @@ fn an_end_that_fails_is_aborted_without_room() {
     assert_eq!(overwritten.ask(end(1)), committed(1));
     assert_eq!(overwritten.ask(end(0)), (7, 1, 1));
     assert_eq!(overwritten.ask(end(0)), (0, 5, 0));
+    assert_eq!(overwritten.ask(begin(0)), (1, 0, 1));
 
     let mut too_old = Desk::open(17 * 8);
     too_old.ask(begin(0));
@@ -144,6 +169,7 @@ fn an_end_that_fails_is_aborted_without_room() {
     too_old.ask(begin(1));
     assert_eq!(too_old.ask(end(1)), LACKS_ROOM);
     assert_eq!(too_old.ask(end(0)), (7, 2, 0));
+    assert_eq!(too_old.ask(begin(0)), (1, 0, 1));
 }
 
 /// While an end lacks room others commit, and it may be overwritten then.

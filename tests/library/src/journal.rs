@@ -120,11 +120,23 @@ pub struct Journaled(Box<JournaledSpace>);
 
 impl Journaled {
     pub fn open(table: &[u8], journal: &mut [u8]) -> Result<Journaled, i64> {
-        let mut space = JournaledSpace::filled(0);
+        Journaled::open_in(JournaledSpace::filled(0), table, journal)
+    }
+
+    pub fn open_in(
+        mut space: Box<JournaledSpace>,
+        table: &[u8],
+        journal: &mut [u8],
+    ) -> Result<Journaled, i64> {
         match space.call_open(table, journal) {
             0 => Ok(Journaled(space)),
             refused => Err(refused),
         }
+    }
+
+    /// The board's own bytes, to be opened again.
+    pub fn into_space(self) -> Box<JournaledSpace> {
+        self.0
     }
 
     pub fn step(&mut self, request: &[u8; 8], journal: &mut [u8]) -> [u8; 12] {

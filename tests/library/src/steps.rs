@@ -58,6 +58,11 @@ impl Board {
         }
     }
 
+    /// The board's own bytes, to be opened again.
+    pub fn into_space(self) -> Box<Space> {
+        self.0
+    }
+
     pub fn step(&mut self, request: &[u8; 8]) -> [u8; 12] {
         let mut answer = [0xA5; 12];
         self.step_into(request, &mut answer);
