@@ -11,9 +11,16 @@
  *     another, after this one began, has committed a write to it, the end is
  *     answered "aborted, overwritten".
  *   - Guarded items are locked: read by many or written by one. A desk that
- *     meets a lock is told to wait if all others who hold it began later, else
- *     it is aborted and must yield. It is told for whom: of these others, for
- *     the one that began first. There is no queue: who waits asks again.
+ *     meets a lock is told to wait if it is older than all others who hold it,
+ *     else it is aborted and must yield. It is told for whom: of these others,
+ *     for the oldest. There is no queue: who waits asks again.
+ *
+ * Older and younger go by age. A begin gives the desk the next age, 1, 2, 3 and
+ * on, and the desk has it until it commits or abandons: when it is aborted it
+ * keeps the age, and its next begin takes it again. So the order of ages is the
+ * order of first begins since a desk last committed or abandoned. The oldest
+ * has the lowest age, and no two desks have the same. The oldest of the open
+ * desks never has to yield, and nobody yields to a desk that first began later.
  *
  * There are two doors. hub_run serves a whole list of requests on a fresh
  * board and supposes nothing of what it is lent. hub_open and hub_step serve
@@ -113,24 +120,27 @@
  *
  *   In an answer, fields in which nothing is said are zero:
  *     0 refused     reason: a refusal, 1 to 9 or 15; the request changed nothing
- *     1 opened      first: the age; second: the start number
+ *     1 opened      first: the age, after an abort the one that was kept;
+ *                   second: the start number, that of the last commit
  *     2 value       item; first: its value
  *     3 stored      item
  *     4 wait        item; first: the desk waited for; ask again later, the
  *                   transaction stays open
  *     5 committed   first: the transaction's number
- *     6 abandoned   the transaction is gone, nothing else changed
- *     7 aborted     the transaction is gone, begin again; reason:
+ *     6 abandoned   the transaction and its age are gone, nothing else changed
+ *     7 aborted     the transaction is gone, the desk keeps its age: begin
+ *                   again; reason:
  *       1 overwritten   item; first: number of the commit that wrote it
  *       2 too old       first: the start number; it has read open items, and
- *                       more than 16 commits came after its start
+ *                       more than 16 commits came after its start, whatever
+ *                       its age
  *       3 yield         item; first: the desk yielded to
  *
  *   Wait and yield name a desk that holds the item: for a read, the other desk
  *   that has written it; for a write, of all others that have read or written
- *   it, the one that began first. That one began after the desk that is told
- *   to wait, and before the desk that must yield. It is always named: in these
- *   two answers a first number of 0 is desk 0.
+ *   it, the oldest. That one is younger than the desk that is told to wait, and
+ *   older than the desk that must yield. It is always named: in these two
+ *   answers a first number of 0 is desk 0.
  *
  *   The opening table is 64 rows, that of item 0 first: 1,024 bytes. It is
  *   right if in each row floor <= value <= ceiling, the kind is 0 or 1 and the
@@ -158,7 +168,7 @@
 #define CHAFFDANCER_DESKS 16
 #define CHAFFDANCER_ITEMS 64
 #define CHAFFDANCER_RUN_REQUESTS 4096 /* the most in one hub_run */
-#define CHAFFDANCER_AGES 2000         /* the most begins on one board */
+#define CHAFFDANCER_AGES 2000         /* the last age given; no board has more commits */
 #define CHAFFDANCER_KEPT_SETS 16      /* more commits since the start: too old */
 
 /* Lengths in bytes. */
@@ -169,8 +179,8 @@
 #define CHAFFDANCER_VALUES_BYTES 256
 #define CHAFFDANCER_RECORD_BYTES 8      /* of a journal */
 #define CHAFFDANCER_JOURNAL_BYTES 65536 /* the most of a journal that is used */
-#define CHAFFDANCER_BOARD_BYTES 5520
-#define CHAFFDANCER_JOURNALED_BYTES 5528
+#define CHAFFDANCER_BOARD_BYTES 5648
+#define CHAFFDANCER_JOURNALED_BYTES 5656
 #define CHAFFDANCER_BOARD_ALIGNMENT 8
 
 /* Kinds of request: byte 0 of a request. */
@@ -212,7 +222,7 @@
 #define CHAFFDANCER_REFUSED_ITEM 6          /* item above 63 */
 #define CHAFFDANCER_REFUSED_BELOW_FLOOR 7   /* written value below the floor */
 #define CHAFFDANCER_REFUSED_ABOVE_CEILING 8 /* written value above the ceiling */
-#define CHAFFDANCER_REFUSED_AGES_GIVEN 9    /* begin after age 2,000 was given */
+#define CHAFFDANCER_REFUSED_AGES_GIVEN 9    /* begin with no age kept, all 2,000 given */
 
 /* Only with a journal: at an end, tested after its validation. */
 #define CHAFFDANCER_REFUSED_NO_ROOM 15 /* the journal is too full for this commit */
