@@ -71,7 +71,7 @@ static void tell_refusal(const struct script *script, const uint8_t *request, sh
         printf("above the ceiling of item %lu (%lu)\n", item, ceiling_of(script, item));
         break;
     case CHAFFDANCER_REFUSED_AGES_GIVEN:
-        printf("all 2,000 ages have been given\n");
+        printf("all 2,000 ages have been given, and desk %lu keeps none\n", desk);
         break;
     case CHAFFDANCER_REFUSED_NO_ROOM:
         printf("the journal has no room for this commit, and the transaction stays open\n");
@@ -84,19 +84,19 @@ static void tell_refusal(const struct script *script, const uint8_t *request, sh
 
 static void tell_abort(const struct chaffdancer_answer *answer)
 {
-    shown item = answer->item, first = answer->first;
+    shown desk = answer->desk, item = answer->item, first = answer->first;
     switch (answer->reason) {
     case CHAFFDANCER_ABORTED_OVERWRITTEN:
-        printf("aborted, overwritten: item %lu was written by number %lu\n", item, first);
+        printf("aborted, overwritten: item %lu was written by number %lu", item, first);
         break;
     case CHAFFDANCER_ABORTED_TOO_OLD:
-        printf("aborted, too old: more than 16 commits since its start at %lu\n", first);
+        printf("aborted, too old: more than 16 commits since its start at %lu", first);
         break;
     default:
-        printf("aborted, must yield to desk %lu, which holds item %lu and began earlier\n", first,
-               item);
+        printf("aborted, must yield to desk %lu, which holds item %lu and is older", first, item);
         break;
     }
+    printf("; desk %lu keeps its age\n", desk);
 }
 
 static void tell_answer(const struct script *script, const uint8_t *request,
@@ -117,7 +117,7 @@ static void tell_answer(const struct script *script, const uint8_t *request,
         printf("stored, unseen by others until the desk commits\n");
         break;
     case CHAFFDANCER_ANSWER_WAIT:
-        printf("wait and ask again: it waits for desk %lu, which holds item %lu and began later\n",
+        printf("wait and ask again: it waits for desk %lu, which holds item %lu and is younger\n",
                first, item);
         break;
     case CHAFFDANCER_ANSWER_COMMITTED:

@@ -120,6 +120,34 @@ static int most_requests(const struct lender *lender)
     return take_back(&lent, passed);
 }
 
+/* Desk 0 must yield to desk 1, keeps its age, waits for desk 1 and is served. */
+static int age_is_kept(const struct lender *lender)
+{
+    static const uint32_t answers[14][6] = {
+        {1, 1, 0, 0, 1, 0}, {1, 3, 1, 0, 0, 0}, {0, 1, 0, 0, 2, 0}, {0, 7, 1, 3, 1, 0},
+        {1, 5, 0, 0, 1, 0}, {0, 0, 0, 5, 0, 0}, {0, 0, 0, 5, 0, 0}, {1, 1, 0, 0, 3, 1},
+        {1, 3, 1, 0, 0, 0}, {0, 1, 0, 0, 2, 1}, {0, 4, 1, 0, 1, 0}, {1, 5, 0, 0, 2, 0},
+        {0, 3, 1, 0, 0, 0}, {0, 5, 0, 0, 3, 0},
+    };
+    struct buffers lent = lend_buffers(lender, 1024, 8 * 14, 12 * 14, 256);
+    size_t round, place;
+    int passed;
+    for (round = 0; round < 2; round++) {
+        uint8_t *requests = lent.requests + 56 * round;
+        chaffdancer_begin(requests, 1);
+        chaffdancer_write(requests + 8, 1, 1, 1);
+        chaffdancer_begin(requests + 16, 0);
+        chaffdancer_write(requests + 24, 0, 1, 1);
+        chaffdancer_end(requests + 32, 1);
+        chaffdancer_write(requests + 40, 0, 1, 1);
+        chaffdancer_end(requests + 48, 0);
+    }
+    passed = run(&lent) == 14 && chaffdancer_get_value(lent.values, 1) == 1;
+    for (place = 0; place < 14; place++)
+        passed = passed && answer_is(lent.answers + 12 * place, answers[place]);
+    return take_back(&lent, passed);
+}
+
 /* Lengths of table, requests, answers and values; what is returned. */
 static const struct refused_run {
     size_t table, requests, answers, values;
@@ -207,6 +235,7 @@ static int example_steps(const struct lender *lender, chaffdancer_board *board)
     return passed;
 }
 
+/* The example leaves a desk with an open transaction and one with a kept age. */
 static int board_is_opened_again(const struct lender *lender)
 {
     uint8_t table[CHAFFDANCER_TABLE_BYTES];
@@ -281,6 +310,7 @@ static const struct check checks[] = {
     {"run of five requests", five_requests},
     {"run of the whole example", whole_example},
     {"run of 4,096 requests", most_requests},
+    {"an aborted desk begins again with its age", age_is_kept},
     {"bytes beyond answers and values are kept", bytes_beyond},
     {"refused runs write nothing", refused_runs_write_nothing},
     {"null is allowed for length 0", null_of_length_zero},

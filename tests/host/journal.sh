@@ -9,7 +9,7 @@ with_journal() {
 check_journal_examples() {
     local example program
     for program in "$plain" "$sanitized"; do
-        for example in examples/worked-example examples/spring-session tests/host/all-answers; do
+        for example in examples/worked-example examples/spring-session examples/kept-age tests/host/all-answers; do
             rm -f "$work/new.journal"
             check "${example##*/}, ${program##*/} --journal" prints_exactly "$example.expected" 0 \
                 "$program" --journal "$work/new.journal" "$example.txt"
