@@ -70,7 +70,7 @@
  * Link with libhub.a, and for the calls with a journal and hub_restart with
  * libhub_journal.a, beside it or alone (x86-64 Linux). The library allocates
  * nothing, keeps nothing between calls, does no input or output and never
- * exits. It takes about 33 KB of stack, with a journal about 49 KB.
+ * exits. It takes about 34 KB of stack, with a journal about 50 KB.
  *
  * RULES FOR ALL CALLS
  *   Buffers   The buffers lent to one call (a board is one too) must not

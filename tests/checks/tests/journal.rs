@@ -39,7 +39,9 @@ fn check(case: &Case, coverage: &mut Coverage) {
         Err(why) => {
             let all_lengths = |case: &Case| {
                 let with_room = compare_journaled(case, enough(case))?;
-                let tight = closings(&with_room.journal).into_iter();
+                // A long stream has too many commits to try each of them again and again.
+                let few = case.requests.len() <= 8 * 500;
+                let tight = closings(&with_room.journal).into_iter().filter(|_| few);
                 let mut lengths = tight.flat_map(|length| [length - 1, length]).chain(LIMITS);
                 lengths.try_for_each(|length| compare_journaled(case, length).map(drop))
             };
