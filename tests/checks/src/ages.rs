@@ -16,7 +16,7 @@ pub struct Aged {
     pub reason: u8,
 }
 
-#[derive(Clone, Default, Debug)]
+#[derive(Clone, Copy, Default, Debug)]
 pub struct Ages {
     pub desks: [Aged; DESKS],
     /// The last new age.

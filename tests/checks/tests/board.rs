@@ -1,6 +1,6 @@
 //! The bytes of the board record.
 
-use checks::each;
+use checks::{each, Ages};
 use library::{Board, Space, BOARD_BYTES};
 use streams::{abandon, begin, outline_table, read, write, Random};
 
@@ -97,6 +97,80 @@ fn an_abandoned_transaction_leaves_nothing() {
     });
     println!("{seen} abandoned, {aborted} aborted on the way");
     assert!(checks::chosen().is_some() || (seen > 500 && aborted > 300));
+}
+
+/// The one place of four bytes in which two boards differ, and the number that
+/// stands there in the first; in the second there are zeros.
+fn only_difference(with: &Board, without: &Board) -> Option<(usize, u32)> {
+    let (mut with, without) = (*with.bytes(), without.bytes());
+    let differs = |&place: &usize| with[place] != without[place];
+    let place = (0..BOARD_BYTES).find(differs)? / 4 * 4;
+    let four: &mut [u8; 4] = (&mut with[place..place + 4]).try_into().ok()?;
+    let number = u32::from_le_bytes(std::mem::take(four));
+    (with == *without).then_some((place, number))
+}
+
+/// What an abort left, if it left nothing else: but for a number in one place
+/// the board is as if the desk had abandoned instead, and it is so altogether
+/// once the desk has begun and abandoned.
+fn left_by_abort(before: &Board, after: &Board, desk: u8) -> Option<(usize, u32)> {
+    let (mut instead, mut dropped) = (before.clone(), after.clone());
+    instead.step(&abandon(desk));
+    dropped.step(&begin(desk));
+    dropped.step(&abandon(desk));
+    let left = only_difference(after, &instead)?;
+    (dropped == instead).then_some(left)
+}
+
+/// An abort leaves the age and nothing else, whatever the transaction had read
+/// and written; a desk's age always stands in the same place.
+#[test]
+fn an_abort_leaves_the_age_alone() {
+    let mut seen = [0; 4];
+    let mut places: [Option<usize>; 16] = [None; 16];
+    each(40, |case| {
+        let Ok(mut board) = Board::open(&case.table) else {
+            return;
+        };
+        let mut ages = Ages::default();
+        for request in case.records() {
+            let before = board.clone();
+            let answer = board.step(request);
+            if answer[0] == 7 {
+                let desk = answer[1] as usize;
+                let left = left_by_abort(&before, &board, answer[1]);
+                let place = *places[desk].get_or_insert(left.map_or(0, |left| left.0));
+                let wanted = Some((place, ages.desks[desk].age));
+                assert_eq!(left, wanted, "{}", checks::rerun(case));
+                seen[answer[3] as usize] += 1;
+            }
+            ages.follow(&answer);
+        }
+    });
+    println!("aborts of reason 1 to 3: {:?}", &seen[1..]);
+    assert!(checks::chosen().is_some() || seen[1..].iter().all(|&count| count > 300));
+}
+
+/// The bytes of a board on which desks keep ages are opened again, and nothing
+/// of it is left.
+#[test]
+fn an_opening_leaves_no_age() {
+    let mut kept = 0;
+    each(40, |case| {
+        let Ok(fresh) = Board::open(&case.table) else {
+            return;
+        };
+        let mut board = fresh.clone();
+        let mut ages = Ages::default();
+        for request in case.records() {
+            ages.follow(&board.step(request));
+        }
+        kept += ages.keepers().count();
+        let again = Board::open_in(board.into_space(), &case.table);
+        assert!(again == Ok(fresh), "{}", checks::rerun(case));
+    });
+    println!("{kept} kept ages are gone");
+    assert!(checks::chosen().is_some() || kept > 500);
 }
 
 /// A sole sharer that writes holds the item alone and no longer shared, so
