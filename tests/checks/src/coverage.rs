@@ -32,7 +32,7 @@ impl Coverage {
         for answer in outcome.answers.chunks(12) {
             self.requests += 1;
             if answer[0] == 1 {
-                self.count_begin(&ages, answer[1] as usize);
+                self.count_begin(&ages, answer);
             }
             ages.follow(answer);
             self.codes[answer[0] as usize] += 1;
@@ -47,8 +47,10 @@ impl Coverage {
         }
     }
 
-    fn count_begin(&mut self, ages: &Ages, desk: usize) {
-        if ages.kept(desk).is_some() {
+    fn count_begin(&mut self, ages: &Ages, answer: &[u8]) {
+        let desk = answer[1] as usize;
+        let age = u32::from_le_bytes([answer[4], answer[5], answer[6], answer[7]]);
+        if ages.kept(desk) == Some(age) {
             self.kept[ages.desks[desk].reason as usize] += 1;
             self.kept_at_last += u64::from(ages.last == LAST_AGE);
         }
