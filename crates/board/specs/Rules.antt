@@ -39,6 +39,7 @@ isGuarded b i = has (b .guarded) i
 abbrev pub itemChecks : Desk → ℕ → List Check
 itemChecks k i = not (isOpen k) fails 5 ∷ ltb 63 i fails 6 ∷ []
 
+-- 9 is for a begin that needs a new age
 abbrev pub checks : Board → ℕ → Request → List Check
 checks b d Begin = isOpen (deskAt b d) fails 4 ∷ (ageless (deskAt b d) && leb 2000 (b .age .0)) fails 9 ∷ []
 checks b d (Read i) = itemChecks (deskAt b d) i
@@ -49,6 +50,12 @@ checks b d Abandon = not (isOpen (deskAt b d)) fails 5 ∷ []
 
 abbrev pub refusal : Board → ℕ → Request → ℕ
 refusal b d r = firstFailing (checks b d r)
+
+-- ---- the begin
+
+-- the age that the desk keeps from an abort, else the next one
+abbrev pub ageFor : Desk → Age → Age
+ageFor k last = cond (ageless k) (nextAge last) (k .age)
 
 -- ---- locks: `locked` of the crate desks
 
@@ -76,12 +83,6 @@ ended sets n k =
     (cond (ltb 16 (n .0 - k .start .0)) (Aborted (TooOld (k .start)))
     (cond (ltb (n .0) stale) commit
     (Aborted (Overwritten (lowest (common (writeSet sets stale) (k .read))) (record { 0 = stale })))))
-
--- ---- the begin
-
--- the age that the desk keeps from an abort, else the next one
-abbrev pub ageFor : Desk → Age → Age
-ageFor k last = cond (ageless k) (nextAge last) (k .age)
 
 -- ---- the answer
 
