@@ -1,13 +1,18 @@
--- An aborted desk keeps its age, since no other desk's request reaches its record; and a yield names an older desk, which the oldest has not.
+-- An aborted desk keeps its age, since no other desk's request reaches its record; a new age is above all others; and a yield names an older
+-- desk, which the oldest has not.
 use mathlib.Core.Path.{_≡_, refl, sym, ap, _∙_, subst}
+use mathlib.Core.Logic.{_≢_}
 use mathlib.Core.Bool.{true, false}
 use mathlib.Core.List.{List, [], _∷_}
 use Prim.Native.Nat.{ℕ, _<_}
 use native.Mathlib.Omega.{arith}
 use borrow.Author.Tests.{eq-eqb}
+use lib.Dec.{eqb}
+use lib.ListN.{set, length}
 use lib.Seq.{getD-set-same, getD-set-other}
-use Rattle.items.proofs.Tests.{clash}
+use Rattle.items.proofs.Tests.{by-cond, by-equal, clash}
 use Rattle.runs.specs.Runs.{after}
+use Rattle.counters.specs.Counters.{noAge, nextAge}
 use Rattle.counters.specs.declared.Age.{Age}
 use Rattle.wire.specs.Requests.{decode, deskOf}
 use Rattle.wire.specs.declared.Request.{Request}
@@ -17,31 +22,43 @@ use Rattle.wire.specs.declared.Decoded.the-variants.{Asked, Malformed}
 use Rattle.wire.specs.declared.Answer.{Answer}
 use Rattle.wire.specs.declared.Reason.{Reason}
 use Rattle.wire.specs.declared.Reason.the-variants.{Yield}
-use Rattle.wire.specs.declared.Answer.the-variants.{Opened, Aborted}
-use Rattle.desks.specs.Desks.{beyond, deskIn, idle, isOpen}
+use Rattle.wire.specs.declared.Answer.the-variants.{Refused, Opened, Value, Stored, Wait, Committed, Abandoned, Aborted}
+use Rattle.desks.specs.Desks.{beyond, deskIn, idle, isOpen, ageless}
 use Rattle.desks.specs.declared.Desk.{Desk}
 use Rattle.board.specs.Rules.{deskAt, answer, answered, follow, step, next}
 use Rattle.board.specs.Opening.{opening}
 use Rattle.demands.specs.Demands.{isFrom}
-use Rattle.demands.specs.Waiting.{conflicting, NamesHolder}
-use Rattle.demands.specs.Keeping.{NoneFrom, KeepsItsAge, OldestNeverYields}
+use Rattle.demands.specs.Waiting.{conflicting, Older, NamesHolder}
+use Rattle.demands.specs.Keeping.{NoneFrom, KeepsItsAge, NoneBecomesOlder, OldestNeverYields}
 use Rattle.board.specs.declared.Board.{Board}
 use Rattle.board.proofs.Sound.{Sound}
 use Rattle.board.proofs.Granted.{Granted, answer-granted}
 use Rattle.board.proofs.Bounds.{desk-low}
 use Rattle.board.proofs.Decided.{begin-kept}
 use Rattle.board.proofs.Reached.{run-sound}
-use Rattle.demands.proofs.Done.{kind, desks-after}
+use Rattle.demands.proofs.Done.{deskNow, kind, desks-after}
 use Rattle.demands.proofs.Named.{way-open, names-the-oldest}
 
--- ---- the record of a desk that others leave alone
+-- ---- the record of a desk after a request: its own, of another desk, and of one that others leave alone
 
-unasked : (b : Board) (q : Decoded) (d : ℕ) → isFrom q d ≡ false → deskAt (follow b q (answer b q)) d ≡ deskAt b d
+-- the board after request q
+abbrev after-one : Board → Decoded → Board
+after-one b q = follow b q (answer b q)
+
+module _ (b : Board) (q : Decoded) where
+  now : (d : ℕ) → deskAt (after-one b q) d ≡ deskIn (set (b .desks) (deskOf q) (deskNow b q (answer b q))) d
+  now d = ap (λ (desks : List Desk). deskIn desks d) (desks-after b q (answer b q) (kind (answer b q)))
+
+  own-now : deskOf q < length (b .desks) → deskAt (after-one b q) (deskOf q) ≡ deskNow b q (answer b q)
+  own-now low = now (deskOf q) ∙ getD-set-same (b .desks) (deskOf q) (deskNow b q (answer b q)) beyond low
+
+  other-now : (d : ℕ) → d ≢ deskOf q → deskAt (after-one b q) d ≡ deskAt b d
+  other-now d n = now d ∙ getD-set-other (b .desks) (deskOf q) d (deskNow b q (answer b q)) beyond n
+
+unasked : (b : Board) (q : Decoded) (d : ℕ) → isFrom q d ≡ false → deskAt (after-one b q) d ≡ deskAt b d
 unfolding follow answer
 unasked b (Malformed n) d f = refl
-unasked b (Asked e r) d f =
-    ap (λ (desks : List Desk). deskIn desks d) (desks-after b (Asked e r) (answer b (Asked e r)) (kind (answer b (Asked e r))))
-    ∙ getD-set-other (b .desks) e d _ beyond (λ same. clash (eq-eqb e d (sym same)) f)
+unasked b (Asked e r) d f = other-now b (Asked e r) d (λ same. clash (eq-eqb e d (sym same)) f)
 
 left-alone : (b : Board) (d : ℕ) (qs : List (List ℕ)) → NoneFrom d qs → deskAt (after next b qs) d ≡ deskAt b d
 unfolding step
@@ -64,16 +81,15 @@ module _ {b : Board} (sound : Sound b) (q : Decoded) (low : deskOf q < 16) (w : 
   aborted-aged : k .age .0 ≡ 0 → ⊥
   aborted-aged none = clash (eq-eqb (k .age .0) 0 none) (sound .desks .each (deskOf q) low .aged aborted-open)
 
-  aborted-idle : deskAt (follow b q (answer b q)) (deskOf q) ≡ idle (k .age)
-  unfolding follow
-  aborted-idle = rw aborted (getD-set-same (b .desks) (deskOf q) (idle (k .age)) beyond (rw (sound .desks .sixteen) low))
+  aborted-idle : deskAt (after-one b q) (deskOf q) ≡ idle (k .age)
+  aborted-idle = own-now b q (rw (sound .desks .sixteen) low) ∙ ap (deskNow b q) aborted
 
   pub aborted-begins :
       (later : List (List ℕ)) → NoneFrom (deskOf q) later
-      → let c = after next (follow b q (answer b q)) later in answered c (deskOf q) Begin ≡ Opened (k .age) (c .number)
+      → let c = after next (after-one b q) later in answered c (deskOf q) Begin ≡ Opened (k .age) (c .number)
   aborted-begins later others =
-      let c = after next (follow b q (answer b q)) later in
-      kept-begins c (deskOf q) (k .age) (left-alone (follow b q (answer b q)) (deskOf q) later others ∙ aborted-idle) aborted-aged
+      let c = after next (after-one b q) later in
+      kept-begins c (deskOf q) (k .age) (left-alone (after-one b q) (deskOf q) later others ∙ aborted-idle) aborted-aged
 
 pub keeps-its-age : KeepsItsAge
 unfolding step answer
@@ -88,6 +104,57 @@ keeps-its-age t right before q later again d r w asked aborted others begin =
 
     c : Board
     c = after next (next b q) later
+
+-- ---- who is older
+
+-- the age that an answer leaves to its desk: none, the one that it had, or the next one
+pub data AgeLeft (b : Board) (k : Desk) : Age → Type 0 where
+  none-left : AgeLeft b k noAge
+  left : AgeLeft b k (k .age)
+  next-given : AgeLeft b k (nextAge (b .age))
+
+age-left : (b : Board) (q : Decoded) (a : Answer) → Granted b (deskOf q) a → AgeLeft b (deskAt b (deskOf q)) (deskNow b q a .age)
+age-left b q (Refused n) may = left
+age-left b q (Opened a s) may =
+    let k = deskAt b (deskOf q) in
+    subst (AgeLeft b k) (sym (may .given)) (by-cond (AgeLeft b k) (ageless k) (λ none. next-given) (λ some. left))
+age-left b q (Value i v) may = left
+age-left b q (Stored i) may = left
+age-left b q (Wait i e) may = left
+age-left b q (Committed n) may = none-left
+age-left b q Abandoned may = none-left
+age-left b q (Aborted w) may = left
+
+module _ {b : Board} (sound : Sound b) (q : Decoded) (low : deskOf q < 16) where
+  abbrev was : Desk
+  was = deskAt b (deskOf q)
+
+  -- the next age is above every other
+  left-older : (d : ℕ) {x : Age} → AgeLeft b was x → eqb (x .0) 0 ≡ false → x .0 < deskAt b d .age .0 → (ageless was ≡ false) × (was .age .0 < deskAt b d .age .0)
+  left-older d none-left some l = clash refl some
+  left-older d left some l = (some, l)
+  left-older d next-given some l = let old = sound .desks .ages .given d in absurd (omega arith)
+
+  older-before :
+      (d e : ℕ) → deskAt (after-one b q) d .age ≡ deskAt b d .age → ageless (deskAt (after-one b q) e) ≡ false → Older (after-one b q) e d
+      → (ageless (deskAt b e) ≡ false) × Older b e d
+  older-before d e same some older =
+      by-equal e (deskOf q)
+      (λ p.
+      rw p
+      (left-older d (age-left b q (answer b q) (answer-granted b q))
+      (subst (λ (k : Desk). ageless k ≡ false) (here p) some) (subst (λ (k : Desk). k .age .0 < deskAt b d .age .0) (here p) below)))
+      (λ n. subst (λ (k : Desk). (ageless k ≡ false) × (k .age .0 < deskAt b d .age .0)) (other-now b q e n) (some, below))
+    where
+      below : deskAt (after-one b q) e .age .0 < deskAt b d .age .0
+      below = subst (λ (a : Age). deskAt (after-one b q) e .age .0 < a .0) same older
+
+      here : e ≡ deskOf q → deskAt (after-one b q) e ≡ deskNow b q (answer b q)
+      here p = ap (deskAt (after-one b q)) p ∙ own-now b q (rw (sound .desks .sixteen) low)
+
+pub none-becomes-older : NoneBecomesOlder
+unfolding step
+none-becomes-older t right before q d e = older-before (run-sound t before) (decode q) (desk-low q) d e
 
 -- ---- the oldest
 

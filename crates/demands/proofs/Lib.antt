@@ -4,7 +4,7 @@
 --   Due, Seen, Done                       which answers a request gets, what it can see of a board, what its answer does to it
 --   Pair, Exchange, Worded                two requests that are apart; the third demand; the same by their bytes
 --   Named                                 a wait and a yield name the oldest holder
---   Aging                                 an aborted desk keeps its age, and the oldest is never made to yield
+--   Aging                                 an aborted desk keeps its age, nobody becomes older than it, and the oldest is never made to yield
 --   Needed, Shams                         what computes: each condition is needed, and no sham hub meets the demands
 pub mod Invariant
 pub mod Steps

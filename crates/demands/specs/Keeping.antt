@@ -1,4 +1,5 @@
--- What an age is worth to a desk: aborted, it begins again as old as it was; and the oldest of the open desks is never made to yield.
+-- What an age is worth to a desk: aborted, it begins again as old as it was; nobody becomes older than it meanwhile; and the oldest of the
+-- open desks is never made to yield.
 use Prim.Native.Nat.{ℕ, _<_, _≤_}
 use mathlib.Core.Path.{_≡_}
 use mathlib.Core.Logic.{_≢_}
@@ -13,10 +14,11 @@ use Rattle.wire.specs.declared.Decoded.the-variants.{Asked}
 use Rattle.wire.specs.declared.Reason.{Reason}
 use Rattle.wire.specs.declared.Reason.the-variants.{Yield}
 use Rattle.wire.specs.declared.Answer.the-variants.{Opened, Aborted}
-use Rattle.desks.specs.Desks.{isOpen}
+use Rattle.desks.specs.Desks.{isOpen, ageless}
 use Rattle.board.specs.Rules.{deskAt, next, reply}
 use Rattle.board.specs.Opening.{opening}
 use Rattle.demands.specs.Demands.{isFrom}
+use Rattle.demands.specs.Waiting.{Older}
 use Rattle.board.specs.declared.Board.{Board}
 
 -- ---- an aborted desk keeps its age
@@ -36,6 +38,17 @@ KeepsItsAge =
     let c = after next (next b q) later in
     decode q ≡ Asked d r → reply b q ≡ Aborted w → NoneFrom d later → decode again ≡ Asked d Begin
     → reply c again ≡ Opened (deskAt b d .age) (c .number)
+
+-- ---- nobody becomes older than a desk that keeps its age
+
+-- at any place of any run, whatever is asked: if desk d has the age that it had, who is older than it then, open or idle, was so before.
+-- So those that are older than it only become fewer
+abbrev pub NoneBecomesOlder : Type 0
+NoneBecomesOlder =
+    (table : List ℕ) → wrong table ≡ false → (before : List (List ℕ)) (q : List ℕ) (d e : ℕ)
+    → let b = after next (opening table) before in
+    let c = next b q in
+    deskAt c d .age ≡ deskAt b d .age → ageless (deskAt c e) ≡ false → Older c e d → (ageless (deskAt b e) ≡ false) × Older b e d
 
 -- ---- the oldest of the open desks is never made to yield
 

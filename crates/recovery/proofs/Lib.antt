@@ -4,7 +4,7 @@
 --   Heard       the second demand, by the requests that were not refused 15
 --   Growth      a request writes no byte of the journal but those that it comes to use
 --   Commuting   the third demand
---   Waited      whom a desk waits for, and that an aborted one keeps its age
+--   Waited      whom a desk waits for, and what its age is worth to it
 --   Pieces      records of 8 bytes at the front of a buffer
 --   Quiet       what is read of records that close nothing
 --   Entry       what is read of a commit's records

@@ -16,11 +16,12 @@ use Rattle.wire.specs.declared.Decoded.the-variants.{Asked}
 use Rattle.wire.specs.declared.Reason.{Reason}
 use Rattle.wire.specs.declared.Reason.the-variants.{Yield}
 use Rattle.wire.specs.declared.Answer.the-variants.{Refused, Opened, Aborted}
+use Rattle.desks.specs.Desks.{ageless}
 use Rattle.board.specs.Rules as Rules
 use Rattle.board.specs.declared.Board.{Board}
 use Rattle.demands.specs.History.{RunReplays}
 use Rattle.demands.specs.Demands.{changesNothing, Apart}
-use Rattle.demands.specs.Waiting.{NamesHolder}
+use Rattle.demands.specs.Waiting.{Older, NamesHolder}
 use Rattle.demands.specs.Keeping.{NoneFrom, NoneOlder}
 use Rattle.records.specs.Records.{sizeOf, room}
 use Rattle.journal.specs.Journal.{commits, asking, Ledger, opened, next, reply}
@@ -89,12 +90,6 @@ NamesTheOldest =
     → let l = after next (opened table journal) before in
     decode q ≡ Asked d r → NamesHolder (l .kept .board) d r (reply l q)
 
-abbrev pub OldestNeverYields : Type 0
-OldestNeverYields =
-    (table : List ℕ) → wrong table ≡ false → (journal : List ℕ) (before : List (List ℕ)) (q : List ℕ) (d : ℕ) (r : Request)
-    → let l = after next (opened table journal) before in
-    decode q ≡ Asked d r → NoneOlder (l .kept .board) d → (i e : ℕ) → reply l q ≢ Aborted (Yield i e)
-
 abbrev pub KeepsItsAge : Type 0
 KeepsItsAge =
     (table : List ℕ) → wrong table ≡ false → (journal : List ℕ) (before : List (List ℕ)) (q : List ℕ) (later : List (List ℕ)) (again : List ℕ)
@@ -103,3 +98,18 @@ KeepsItsAge =
     let m = after next (next l q) later in
     decode q ≡ Asked d r → reply l q ≡ Aborted w → NoneFrom d later → decode again ≡ Asked d Begin
     → reply m again ≡ Opened (Rules.deskAt (l .kept .board) d .age) (m .kept .board .number)
+
+abbrev pub NoneBecomesOlder : Type 0
+NoneBecomesOlder =
+    (table : List ℕ) → wrong table ≡ false → (journal : List ℕ) (before : List (List ℕ)) (q : List ℕ) (d e : ℕ)
+    → let l = after next (opened table journal) before in
+    let b = l .kept .board in
+    let c = next l q .kept .board in
+    Rules.deskAt c d .age ≡ Rules.deskAt b d .age → ageless (Rules.deskAt c e) ≡ false → Older c e d
+    → (ageless (Rules.deskAt b e) ≡ false) × Older b e d
+
+abbrev pub OldestNeverYields : Type 0
+OldestNeverYields =
+    (table : List ℕ) → wrong table ≡ false → (journal : List ℕ) (before : List (List ℕ)) (q : List ℕ) (d : ℕ) (r : Request)
+    → let l = after next (opened table journal) before in
+    decode q ≡ Asked d r → NoneOlder (l .kept .board) d → (i e : ℕ) → reply l q ≢ Aborted (Yield i e)
