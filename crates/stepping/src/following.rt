@@ -69,7 +69,8 @@ fn installed(values: [u32; 64], k: Desk) -> [u32; 64]
     after
 }
 
-// One local holds the board all the way, and every way ends at the last line: so it is copied once.
+// One local holds the board all the way, and every way ends at the last line: so it is copied once. The desk's record is taken out before the
+// match, since in the arms it costs another copy.
 pub fn follow(b: Board, asked: Decoded, answer: Answer) -> Board
     requires { ⌜ deskOf asked < 16 ⌝ }
     requires { ⌜ itemOf answer < 64 ⌝ }

@@ -1,4 +1,5 @@
--- The loop's invariant: of the other desks below e, the eldest that conflicts is found.
+-- The loop's invariant: of the other desks below e, the eldest that conflicts is found. What is returned comes first, so that another desk put
+-- aside is named before anything else.
 use Prim.Native.Nat.{_≤_, _-_}
 use mathlib.Core.Path.{_≡_, refl, sym, _∙_}
 use mathlib.Core.Logic.{⊎-elim}
@@ -15,6 +16,13 @@ Inv-loop d i w others found₀ e₀ found e = (e ≤ 16) × FoundBelow (λ n. co
 
 abbrev μ-loop : tie.MeasureT-loop
 μ-loop d i w others found₀ e₀ found e = 16 - e
+
+returns : tie.Need-returns Inv-loop μ-loop
+returns c =
+    let e : c .before .loop .e ≡ 16 = omega arith in
+    let given = c .before .before .before .args in
+    (rw e at (c .before .loop .inv .1 .desk))
+    ∙ rw (c .before .before .idle .ensures) (holder-others (given .desks) (given .guarded) (given .d) (given .i) (given .w) (search needs) (c .before .before .before .pre .2))
 
 idle-requires : tie.Need-idle-requires Inv-loop μ-loop
 idle-requires c κs = search needs
@@ -54,13 +62,6 @@ loop-again c = (
       (λ w. rw (w .1) (found-passed _ _ _ _ (c .before .before .before .before .loop .inv .1) (sym (c .before .conflicts .ensures) ∙ w .0 .left)))
       (c .if1 .came),
 )
-
-returns : tie.Need-returns Inv-loop μ-loop
-returns c =
-    let e : c .before .loop .e ≡ 16 = omega arith in
-    let given = c .before .before .before .args in
-    (rw e at (c .before .loop .inv .1 .desk))
-    ∙ rw (c .before .before .idle .ensures) (holder-others (given .desks) (given .guarded) (given .d) (given .i) (given .w) (search needs) (c .before .before .before .pre .2))
 
 pub holder-spec : {M : Type 1} → statement M
 holder-spec =
