@@ -26,7 +26,7 @@ pub record Reached (b : Board) : Type 0 where
   pub left : after next (opening table) requests ≡ b
 
 -- what follows of its counters (Sound of proofs/), and is all that the code leans on: no transaction begins in the future,
--- one that is open has an age that no number has reached, and no age is above 2,000
+-- while one is open the last age is above the last number, and no age is above 2,000
 pub record Counted (b : Board) : Type 0 where
   pub started : (d : ℕ) → d < 16 → deskAt b d .start .0 ≤ b .number .0
   pub ahead : (d : ℕ) → d < 16 → isOpen (deskAt b d) ≡ true → b .number .0 < b .age .0

@@ -28,8 +28,8 @@ use Rattle.desks.specs.declared.Desk.{Desk}
 use Rattle.board.specs.Rules.{deskAt, answer, answered, follow, step, next}
 use Rattle.board.specs.Opening.{opening}
 use Rattle.demands.specs.Demands.{isFrom}
-use Rattle.demands.specs.Waiting.{conflicting, Older, NamesHolder}
-use Rattle.demands.specs.Keeping.{NoneFrom, KeepsItsAge, NoneBecomesOlder, OldestNeverYields}
+use Rattle.demands.specs.Waiting.{conflicting, NamesHolder}
+use Rattle.demands.specs.Keeping.{NoneFrom, OlderBefore, KeepsItsAge, NoneBecomesOlder, OldestNeverYields}
 use Rattle.board.specs.declared.Board.{Board}
 use Rattle.board.proofs.Sound.{Sound}
 use Rattle.board.proofs.Granted.{Granted, answer-granted}
@@ -84,7 +84,7 @@ module _ {b : Board} (sound : Sound b) (q : Decoded) (low : deskOf q < 16) (w : 
   aborted-idle : deskAt (after-one b q) (deskOf q) ≡ idle (k .age)
   aborted-idle = own-now b q (rw (sound .desks .sixteen) low) ∙ ap (deskNow b q) aborted
 
-  pub aborted-begins :
+  aborted-begins :
       (later : List (List ℕ)) → NoneFrom (deskOf q) later
       → let c = after next (after-one b q) later in answered c (deskOf q) Begin ≡ Opened (k .age) (c .number)
   aborted-begins later others =
@@ -108,7 +108,7 @@ keeps-its-age t right before q later again d r w asked aborted others begin =
 -- ---- who is older
 
 -- the age that an answer leaves to its desk: none, the one that it had, or the next one
-pub data AgeLeft (b : Board) (k : Desk) : Age → Type 0 where
+data AgeLeft (b : Board) (k : Desk) : Age → Type 0 where
   none-left : AgeLeft b k noAge
   left : AgeLeft b k (k .age)
   next-given : AgeLeft b k (nextAge (b .age))
@@ -135,9 +135,7 @@ module _ {b : Board} (sound : Sound b) (q : Decoded) (low : deskOf q < 16) where
   left-older d left some l = (some, l)
   left-older d next-given some l = let old = sound .desks .ages .given d in absurd (omega arith)
 
-  older-before :
-      (d e : ℕ) → deskAt (after-one b q) d .age ≡ deskAt b d .age → ageless (deskAt (after-one b q) e) ≡ false → Older (after-one b q) e d
-      → (ageless (deskAt b e) ≡ false) × Older b e d
+  older-before : (d e : ℕ) → OlderBefore b (after-one b q) d e
   older-before d e same some older =
       by-equal e (deskOf q)
       (λ p.

@@ -13,6 +13,7 @@ use Rattle.wire.specs.declared.Request.the-variants.{Begin}
 use Rattle.wire.specs.declared.Decoded.the-variants.{Asked}
 use Rattle.wire.specs.declared.Reason.{Reason}
 use Rattle.wire.specs.declared.Reason.the-variants.{Yield}
+use Rattle.wire.specs.declared.Answer.{Answer}
 use Rattle.wire.specs.declared.Answer.the-variants.{Opened, Aborted}
 use Rattle.desks.specs.Desks.{isOpen, ageless}
 use Rattle.board.specs.Rules.{deskAt, next, reply}
@@ -21,6 +22,8 @@ use Rattle.demands.specs.Demands.{isFrom}
 use Rattle.demands.specs.Waiting.{Older}
 use Rattle.board.specs.declared.Board.{Board}
 
+-- Each is said of a run from s on any board, which `board` tells, and then of every run on the board of the rules.
+
 -- ---- an aborted desk keeps its age
 
 -- none of them is a request of desk d
@@ -28,27 +31,33 @@ abbrev pub NoneFrom : ℕ → List (List ℕ) → Type 0
 NoneFrom d [] = Unit {0}
 NoneFrom d (q ∷ qs) = (isFrom (decode q) d ≡ false) × NoneFrom d qs
 
--- at any place of any run: request q aborts desk d, for whatever reason; other desks go on as they like; desk d begins again.
+-- at any place: request q aborts desk d, for whatever reason; other desks go on as they like; desk d begins again.
 -- It is opened with the age that it had, also after age 2,000 was given
+abbrev pub RunKeepsItsAge : {S : Type 0} → (S → Board) → (S → List ℕ → S) → (S → List ℕ → Answer) → S → Type 0
+RunKeepsItsAge board next reply s =
+    (before : List (List ℕ)) (q : List ℕ) (later : List (List ℕ)) (again : List ℕ) (d : ℕ) (r : Request) (w : Reason)
+    → let at = after next s before in
+    let then = after next (next at q) later in
+    decode q ≡ Asked d r → reply at q ≡ Aborted w → NoneFrom d later → decode again ≡ Asked d Begin
+    → reply then again ≡ Opened (deskAt (board at) d .age) (board then .number)
+
 abbrev pub KeepsItsAge : Type 0
-KeepsItsAge =
-    (table : List ℕ) → wrong table ≡ false → (before : List (List ℕ)) (q : List ℕ) (later : List (List ℕ)) (again : List ℕ)
-    → (d : ℕ) (r : Request) (w : Reason)
-    → let b = after next (opening table) before in
-    let c = after next (next b q) later in
-    decode q ≡ Asked d r → reply b q ≡ Aborted w → NoneFrom d later → decode again ≡ Asked d Begin
-    → reply c again ≡ Opened (deskAt b d .age) (c .number)
+KeepsItsAge = (table : List ℕ) → wrong table ≡ false → RunKeepsItsAge (λ b. b) next reply (opening table)
 
 -- ---- nobody becomes older than a desk that keeps its age
 
--- at any place of any run, whatever is asked: if desk d has the age that it had, who is older than it then, open or idle, was so before.
--- So those that are older than it only become fewer
-abbrev pub NoneBecomesOlder : Type 0
-NoneBecomesOlder =
-    (table : List ℕ) → wrong table ≡ false → (before : List (List ℕ)) (q : List ℕ) (d e : ℕ)
-    → let b = after next (opening table) before in
-    let c = next b q in
+-- from board b to board c: if desk d has the age that it had, who is older than it then, open or idle, was so before
+abbrev pub OlderBefore : Board → Board → ℕ → ℕ → Type 0
+OlderBefore b c d e =
     deskAt c d .age ≡ deskAt b d .age → ageless (deskAt c e) ≡ false → Older c e d → (ageless (deskAt b e) ≡ false) × Older b e d
+
+-- at any place, whatever is asked: so those that are older than a desk only become fewer while it has its age
+abbrev pub RunNoneBecomesOlder : {S : Type 0} → (S → Board) → (S → List ℕ → S) → S → Type 0
+RunNoneBecomesOlder board next s =
+    (before : List (List ℕ)) (q : List ℕ) (d e : ℕ) → let at = after next s before in OlderBefore (board at) (board (next at q)) d e
+
+abbrev pub NoneBecomesOlder : Type 0
+NoneBecomesOlder = (table : List ℕ) → wrong table ≡ false → RunNoneBecomesOlder (λ b. b) next (opening table)
 
 -- ---- the oldest of the open desks is never made to yield
 
@@ -56,9 +65,11 @@ NoneBecomesOlder =
 abbrev pub NoneOlder : Board → ℕ → Type 0
 NoneOlder b d = (e : ℕ) → e < 16 → isOpen (deskAt b e) ≡ true → deskAt b d .age .0 ≤ deskAt b e .age .0
 
--- at any place of any run
+abbrev pub RunOldestNeverYields : {S : Type 0} → (S → Board) → (S → List ℕ → S) → (S → List ℕ → Answer) → S → Type 0
+RunOldestNeverYields board next reply s =
+    (before : List (List ℕ)) (q : List ℕ) (d : ℕ) (r : Request)
+    → let at = after next s before in
+    decode q ≡ Asked d r → NoneOlder (board at) d → (i e : ℕ) → reply at q ≢ Aborted (Yield i e)
+
 abbrev pub OldestNeverYields : Type 0
-OldestNeverYields =
-    (table : List ℕ) → wrong table ≡ false → (before : List (List ℕ)) (q : List ℕ) (d : ℕ) (r : Request)
-    → let b = after next (opening table) before in
-    decode q ≡ Asked d r → NoneOlder b d → (i e : ℕ) → reply b q ≢ Aborted (Yield i e)
+OldestNeverYields = (table : List ℕ) → wrong table ≡ false → RunOldestNeverYields (λ b. b) next reply (opening table)

@@ -56,8 +56,12 @@ NamesHolder b d r (Committed n) = Unit {0}
 NamesHolder b d r Abandoned = Unit {0}
 NamesHolder b d r (Aborted w) = NamesWhy b d r w
 
--- of every request q, at any place of any run
+-- of a run from s on any board, which `board` tells: of every request q, at any place of it
+abbrev pub RunNamesTheOldest : {S : Type 0} → (S → Board) → (S → List ℕ → S) → (S → List ℕ → Answer) → S → Type 0
+RunNamesTheOldest board next reply s =
+    (before : List (List ℕ)) (q : List ℕ) (d : ℕ) (r : Request)
+    → let at = after next s before in
+    decode q ≡ Asked d r → NamesHolder (board at) d r (reply at q)
+
 abbrev pub NamesTheOldest : Type 0
-NamesTheOldest =
-    (table : List ℕ) → wrong table ≡ false → (before : List (List ℕ)) (q : List ℕ) (d : ℕ) (r : Request) → decode q ≡ Asked d r
-    → NamesHolder (after next (opening table) before) d r (reply (after next (opening table) before) q)
+NamesTheOldest = (table : List ℕ) → wrong table ≡ false → RunNamesTheOldest (λ b. b) next reply (opening table)

@@ -10,14 +10,13 @@ use Rattle.wire.specs.declared.Reason.{Reason}
 use Rattle.wire.specs.declared.Reason.the-variants.{Yield}
 use Rattle.wire.specs.declared.Answer.{Answer}
 use Rattle.wire.specs.declared.Answer.the-variants.{Refused, Opened, Aborted}
-use Rattle.desks.specs.Desks.{ageless}
 use Rattle.board.specs.Rules as Rules
 use Rattle.board.specs.Rules.{deskAt}
 use Rattle.board.specs.Opening.{opening}
 use Rattle.board.specs.declared.Board.{Board}
 use Rattle.demands.specs.Demands.{changesNothing}
-use Rattle.demands.specs.Waiting.{Older, NamesHolder}
-use Rattle.demands.specs.Keeping.{NoneFrom, NoneOlder}
+use Rattle.demands.specs.Waiting.{NamesHolder}
+use Rattle.demands.specs.Keeping.{NoneFrom, OlderBefore, NoneOlder}
 use Rattle.demands.proofs.Named as Named
 use Rattle.demands.proofs.Aging as Aging
 use Rattle.journal.specs.Journal.{commits, Ledger, opened, next, reply}
@@ -83,16 +82,11 @@ keeps-its-age t right journal before q later again d r w asked aborted others be
 
 -- ---- who is older
 
--- who is older than desk d on board c, where that has its age, was so on board b
-abbrev OlderBefore : ℕ → ℕ → Board → Board → Type 0
-OlderBefore d e b c =
-    deskAt c d .age ≡ deskAt b d .age → ageless (deskAt c e) ≡ false → Older c e d → (ageless (deskAt b e) ≡ false) × Older b e d
-
 pub none-becomes-older : NoneBecomesOlder
 none-becomes-older t right journal before q d e =
     let l = ledger t journal before in
     by-test (lacksRoom l q)
-    (λ lacks. subst (λ (m : Ledger). OlderBefore d e (l .kept .board) (m .kept .board)) (sym (next-lacks l q lacks)) (λ same some older. (some, older)))
+    (λ lacks. subst (λ (m : Ledger). OlderBefore (l .kept .board) (m .kept .board) d e) (sym (next-lacks l q lacks)) (λ same some older. (some, older)))
     (λ roomy.
-    subst (OlderBefore d e (l .kept .board)) (sym (board-roomy l q roomy))
-    (as-without t journal before (λ (b : Board). OlderBefore d e b (Rules.next b q)) (λ hs. Aging.none-becomes-older t right hs q d e)))
+    subst (λ (c : Board). OlderBefore (l .kept .board) c d e) (sym (board-roomy l q roomy))
+    (as-without t journal before (λ (b : Board). OlderBefore b (Rules.next b q) d e) (λ hs. Aging.none-becomes-older t right hs q d e)))

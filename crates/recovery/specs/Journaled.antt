@@ -10,19 +10,13 @@ use lib.ListN.{length, take, drop}
 use Rattle.runs.specs.Runs.{after, Exchanged}
 use Rattle.wire.specs.Requests.{decode}
 use Rattle.table.specs.Table.{wrong}
-use Rattle.wire.specs.declared.Request.{Request}
-use Rattle.wire.specs.declared.Request.the-variants.{Begin}
-use Rattle.wire.specs.declared.Decoded.the-variants.{Asked}
-use Rattle.wire.specs.declared.Reason.{Reason}
-use Rattle.wire.specs.declared.Reason.the-variants.{Yield}
-use Rattle.wire.specs.declared.Answer.the-variants.{Refused, Opened, Aborted}
-use Rattle.desks.specs.Desks.{ageless}
+use Rattle.wire.specs.declared.Answer.the-variants.{Refused}
 use Rattle.board.specs.Rules as Rules
 use Rattle.board.specs.declared.Board.{Board}
 use Rattle.demands.specs.History.{RunReplays}
 use Rattle.demands.specs.Demands.{changesNothing, Apart}
-use Rattle.demands.specs.Waiting.{Older, NamesHolder}
-use Rattle.demands.specs.Keeping.{NoneFrom, NoneOlder}
+use Rattle.demands.specs.Waiting.{RunNamesTheOldest}
+use Rattle.demands.specs.Keeping.{RunKeepsItsAge, RunNoneBecomesOlder, RunOldestNeverYields}
 use Rattle.records.specs.Records.{sizeOf, room}
 use Rattle.journal.specs.Journal.{commits, asking, Ledger, opened, next, reply}
 
@@ -84,32 +78,17 @@ Exchanges =
 
 -- ---- whom a desk waits for or yields to, and what its age is worth to it: as without a journal
 
+abbrev board : Ledger → Board
+board l = l .kept .board
+
 abbrev pub NamesTheOldest : Type 0
-NamesTheOldest =
-    (table : List ℕ) → wrong table ≡ false → (journal : List ℕ) (before : List (List ℕ)) (q : List ℕ) (d : ℕ) (r : Request)
-    → let l = after next (opened table journal) before in
-    decode q ≡ Asked d r → NamesHolder (l .kept .board) d r (reply l q)
+NamesTheOldest = (table : List ℕ) → wrong table ≡ false → (journal : List ℕ) → RunNamesTheOldest board next reply (opened table journal)
 
 abbrev pub KeepsItsAge : Type 0
-KeepsItsAge =
-    (table : List ℕ) → wrong table ≡ false → (journal : List ℕ) (before : List (List ℕ)) (q : List ℕ) (later : List (List ℕ)) (again : List ℕ)
-    → (d : ℕ) (r : Request) (w : Reason)
-    → let l = after next (opened table journal) before in
-    let m = after next (next l q) later in
-    decode q ≡ Asked d r → reply l q ≡ Aborted w → NoneFrom d later → decode again ≡ Asked d Begin
-    → reply m again ≡ Opened (Rules.deskAt (l .kept .board) d .age) (m .kept .board .number)
+KeepsItsAge = (table : List ℕ) → wrong table ≡ false → (journal : List ℕ) → RunKeepsItsAge board next reply (opened table journal)
 
 abbrev pub NoneBecomesOlder : Type 0
-NoneBecomesOlder =
-    (table : List ℕ) → wrong table ≡ false → (journal : List ℕ) (before : List (List ℕ)) (q : List ℕ) (d e : ℕ)
-    → let l = after next (opened table journal) before in
-    let b = l .kept .board in
-    let c = next l q .kept .board in
-    Rules.deskAt c d .age ≡ Rules.deskAt b d .age → ageless (Rules.deskAt c e) ≡ false → Older c e d
-    → (ageless (Rules.deskAt b e) ≡ false) × Older b e d
+NoneBecomesOlder = (table : List ℕ) → wrong table ≡ false → (journal : List ℕ) → RunNoneBecomesOlder board next (opened table journal)
 
 abbrev pub OldestNeverYields : Type 0
-OldestNeverYields =
-    (table : List ℕ) → wrong table ≡ false → (journal : List ℕ) (before : List (List ℕ)) (q : List ℕ) (d : ℕ) (r : Request)
-    → let l = after next (opened table journal) before in
-    decode q ≡ Asked d r → NoneOlder (l .kept .board) d → (i e : ℕ) → reply l q ≢ Aborted (Yield i e)
+OldestNeverYields = (table : List ℕ) → wrong table ≡ false → (journal : List ℕ) → RunOldestNeverYields board next reply (opened table journal)
