@@ -3,12 +3,12 @@ use mathlib.Core.Path.{_≡_, refl, sym, _∙_}
 use mathlib.Core.Logic.{_≢_}
 use mathlib.Core.Bool.{Bool, true, false, not, _&&_, _||_}
 use mathlib.Core.List.{List}
-use Prim.Native.Nat.{ℕ, zero, suc, _<_, _≤_}
-use lib.ListN.{getD, set, length, length-set, replicate}
+use Prim.Native.Nat.{ℕ, _<_, _≤_}
+use lib.ListN.{set, length, length-set}
 use lib.Seq.{getD-set-same, getD-set-other}
 use Rattle.items.specs.Items.{has, none}
 use Rattle.items.specs.declared.Items.{Items}
-use Rattle.items.proofs.Tests.{by-cond, by-equal, clash, or-left, or-right, or-both}
+use Rattle.items.proofs.Tests.{by-cond, by-equal, by-place, clash, or-left, or-right, or-both}
 use Rattle.items.proofs.Laws.{has-none, with-same, with-other, with-less, without-other}
 use Rattle.counters.specs.declared.Age.{Age}
 use Rattle.counters.specs.declared.Number.{Number}
@@ -52,11 +52,6 @@ locks-set guarded desks locks d k hd new e f he hf n =
 
 -- ---- a desk that has done nothing
 
-zeros : (n i : ℕ) → getD {A = ℕ} (replicate n 0) i 0 ≡ 0
-zeros zero i = refl
-zeros (suc n) zero = refl
-zeros (suc n) (suc i) = zeros n i
-
 module _ (o : ℕ) (a : Age) (s : Number) where
   pub blank-excludes : (guarded : Items) (m : Desk) → Excludes guarded (blank o a s) m × Excludes guarded m (blank o a s)
   blank-excludes guarded m = ((λ i g w. clash w (has-none i)), (λ i g w. or-both (has none i) (has none i) (has-none i) (has-none i)))
@@ -69,7 +64,7 @@ module _ (o : ℕ) (a : Age) (s : Number) where
       record {
         started = started;
         room = refl;
-        unwritten = λ i w. zeros 64 i;
+        unwritten = λ i w. by-place (λ (v : ℕ). v ≡ 0) refl refl 64 i;
         unread = λ i g. has-none i;
         closed = closed;
         aged = aged;

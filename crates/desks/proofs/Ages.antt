@@ -2,12 +2,12 @@
 use mathlib.Core.Path.{_≡_, refl, sym, ap, _∙_}
 use mathlib.Core.Logic.{_≢_}
 use mathlib.Core.List.{List}
-use Prim.Native.Nat.{ℕ, zero, suc, _<_, _≤_, zero-le}
+use Prim.Native.Nat.{ℕ, _<_, _≤_, zero-le}
 use native.Mathlib.Nat.{le-refl, le-trans}
 use native.Mathlib.Omega.{arith}
 use lib.ListN.{set, length, replicate}
 use lib.Seq.{getD-set-same, getD-set-other}
-use Rattle.items.proofs.Tests.{by-equal}
+use Rattle.items.proofs.Tests.{by-equal, by-place}
 use Rattle.counters.specs.Counters.{noAge}
 use Rattle.desks.specs.Desks.{idle, beyond, deskIn}
 use Rattle.desks.specs.declared.Desk.{Desk}
@@ -58,9 +58,7 @@ module _ {last : ℕ} {desks : List Desk} (ages : AgesApart last desks) (d : ℕ
 
 -- at first, where no desk has one
 no-age : (n d : ℕ) → ageIn (replicate n (idle noAge)) d ≡ 0
-no-age zero d = refl
-no-age (suc n) zero = refl
-no-age (suc n) (suc d) = no-age n d
+no-age = by-place (λ (k : Desk). k .age .0 ≡ 0) refl refl
 
 pub ages-none : (n : ℕ) → AgesApart 0 (replicate n (idle noAge))
 ages-none n = record { given = λ d. rw (no-age n d) (le-refl 0); apart = λ d e ne same. no-age n d }

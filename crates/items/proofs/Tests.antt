@@ -1,10 +1,11 @@
--- Cases on a test with its equation at hand, and what follows from the value of `&&`, `||` and `cond`. All proofs share these.
+-- Cases on a test with its equation at hand, on a place in a list, and what follows from the value of `&&`, `||` and `cond`. All proofs share these.
 use mathlib.Core.Path.{_≡_, refl, sym, _∙_}
 use mathlib.Core.Logic.{_≢_}
 use mathlib.Core.Bool.{Bool, true, false, cond, _&&_, _||_, true≢false}
-use Prim.Native.Nat.{ℕ}
+use Prim.Native.Nat.{ℕ, zero, suc}
 use borrow.Author.Tests.{eqb-true, eqb-false}
 use lib.Dec.{eqb}
+use lib.ListN.{getD, replicate}
 
 -- ---- by cases
 
@@ -20,6 +21,12 @@ by-cond P false p q = q refl
 -- two numbers are the same or not
 pub by-equal {ℓ} : {P : Type ℓ} (m n : ℕ) → (m ≡ n → P) → (m ≢ n → P) → P
 by-equal m n p q = by-test (eqb m n) (λ t. p (eqb-true m n t)) (λ f. q (eqb-false m n f))
+
+-- of a place in a list that holds x all along: x is there, or past the end y
+pub by-place : {A : Type 0} (P : A → Type 0) {x y : A} → P x → P y → (n i : ℕ) → P (getD (replicate n x) i y)
+by-place P p q zero i = q
+by-place P p q (suc n) zero = p
+by-place P p q (suc n) (suc i) = by-place P p q n i
 
 pub clash {ℓ} : {P : Type ℓ} {t : Bool} → t ≡ true → t ≡ false → P
 clash p q = absurd (true≢false (sym p ∙ q))

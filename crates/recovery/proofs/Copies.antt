@@ -1,15 +1,15 @@
 -- A desk's copies are within the limits of their items: a write outside them is refused.
-use Prim.Native.Nat.{ℕ, zero, suc, _≤_, _<_}
+use Prim.Native.Nat.{ℕ, _≤_, _<_}
 use mathlib.Core.Path.{_≡_, ap, sym, _∙_, subst}
 use mathlib.Core.Bool.{true, false}
 use mathlib.Core.List.{List}
 use borrow.Author.Tests.{ltb-true, ltb-false}
 use lib.Dec.{eqb, ltb}
-use lib.ListN.{getD, set, length, replicate}
+use lib.ListN.{getD, set, length}
 use lib.Seq.{getD-set-same, getD-set-other, set-out}
 use Rattle.items.specs.Items.{has}
 use Rattle.items.proofs.Laws.{has-none, with-other}
-use Rattle.items.proofs.Tests.{by-cond, by-test, by-equal, clash}
+use Rattle.items.proofs.Tests.{by-cond, by-test, by-equal, by-place, clash}
 use Rattle.counters.specs.Counters.{noAge, noNumber}
 use Rattle.counters.specs.declared.Age.{Age}
 use Rattle.counters.specs.declared.Number.{Number}
@@ -105,11 +105,7 @@ follow-copied b q long h Abandoned w = one-desk b (b .desks) (deskOf q) (idle no
 follow-copied b q long h (Aborted x) w =
     let a = deskAt b (deskOf q) .age in one-desk b (b .desks) (deskOf q) (idle a) h (blank-fine b 0 a noNumber)
 
-idle-copied : (b : Board) (n d : ℕ) → Fine b (deskIn (replicate n (idle noAge)) d)
-idle-copied b zero d i low e = clash e (has-none i)
-idle-copied b (suc n) zero i low e = clash e (has-none i)
-idle-copied b (suc n) (suc d) i low e = idle-copied b n d i low e
-
 pub opening-copied : (t : List ℕ) → Copied (opening t) (opening t .desks)
 unfolding opening
-opening-copied t d = idle-copied (opening t) 16 d
+opening-copied t =
+    by-place (Fine (opening t)) (λ i low e. clash e (has-none i)) (λ i low e. clash e (has-none i)) 16

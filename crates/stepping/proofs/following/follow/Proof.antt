@@ -1,6 +1,14 @@
--- By the answer: each arm does what the rules do for it. The arms come first, so that a wrong one is named before anything else.
+-- By the answer: each arm does what the rules do for it. The arms come first, so that a wrong one is named before anything else, and where a desk
+-- is freed the record that it is given is an equation of its own.
+use Prim.Native.Nat.{ℕ}
+use mathlib.Core.Path.{ap, _∙_}
 use borrow.Author.Needs.{needs}
-use Rattle.board.specs.Rules.{follow}
+use lib.ListN.{set}
+use Rattle.wire.specs.Requests.{deskOf}
+use Rattle.desks.specs.Desks.{idle}
+use Rattle.desks.specs.declared.Desk.{Desk}
+use Rattle.board.specs.Rules.{deskAt, withDesks, put, committed, follow}
+use Rattle.board.specs.declared.Board.{Board}
 use Rattle.stepping.proofs.following.follow.Statement.{statement}
 use Rattle.stepping.proofs.following.follow.Tie as tie
 
@@ -26,15 +34,24 @@ returns-5 c = rw (c .enum-told2 .given .1)
 
 returns-6 : tie.Need-returns-6
 unfolding follow
-returns-6 c = rw (c .before .before .before .before .before .before .answer4 .given .1, c .idle .ensures, c .before .place .ensures, c .before .before .before .installed .ensures, c .before .before .before .before .before .before .before .before .before .desk-of .ensures)
+returns-6 c =
+    let a = c .before .before .before .before .before .before .before .before .before .before .args in
+    let told = c .before .before .before .before .before .before .answer4 .given in
+    let freed : Desk → Board = λ k. withDesks (committed (a .b) (deskOf (a .asked)) (told .0 .0)) (set (a .b .desks) (deskOf (a .asked)) k) in
+    rw (told .1, c .before .place .ensures, c .before .before .before .installed .ensures, c .before .before .before .before .before .before .before .before .before .desk-of .ensures) (ap freed (c .idle .ensures))
 
 returns-7 : tie.Need-returns-7
 unfolding follow
-returns-7 c = rw (c .before .enum-told3 .given .1, c .before .before .before .before .desk-of .ensures, c .idle2 .ensures)
+returns-7 c =
+    let a = c .before .before .before .before .before .args in
+    rw (c .before .enum-told3 .given .1, c .before .before .before .before .desk-of .ensures) (ap (put (a .b) (deskOf (a .asked))) (c .idle2 .ensures))
 
 returns-8 : tie.Need-returns-8
 unfolding follow
-returns-8 c = rw (c .before .enum-told4 .given .1, c .idle3 .ensures, c .before .before .before .before .desk-of .ensures)
+returns-8 c =
+    let a = c .before .before .before .before .before .args in
+    rw (c .before .enum-told4 .given .1, c .before .before .before .before .desk-of .ensures)
+    (ap (put (a .b) (deskOf (a .asked))) (c .idle3 .ensures ∙ ap (λ (d : ℕ). idle (deskAt (a .b) d .age)) (c .before .before .before .before .desk-of .ensures)))
 
 desk-of-requires : tie.Need-desk-of-requires
 desk-of-requires c κs = search needs
