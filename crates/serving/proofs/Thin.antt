@@ -14,14 +14,14 @@ use mir.Val.{Val, vptr, vstruct, vcons, vnil}
 use base.Logic.{SProp, ent, sep, snd∗, exE, id⊢}
 use base.Stored.{Coded}
 use base.Fml.{Fml, GName, Lft, Share, ftrue, fat, flft, fobs, fbor}
-use prog.Wp.{Heap, Calls, Loops, WpFn, Tables}
+use prog.Wp.{Heap, WpFn, Tables}
 use ghost.Atoms.{Atoms, sem}
 use contract.Monad.{fact}
 use types.Kit.{Given, ‵, raw, later, some, _⊛_, _$_, _∵_, !, qed, by, move, keep, drop, use1, split, join, pick, rewrite, fsplit, fsplit3, fjoin, fjoin3, feqI, suffices, frame, await, done}
 use types.Run.{look, look-raw, init, store-raw, forget, stop, hop, fld, from, load, and-then, no-more, of-opd, assigns, land, returns, enter, alloc1, alloc0, params1, pass1, pass0, free1, free0}
 use types.Part.{whole, sub, look-in}
 use types.SemTy.{Body}
-use sound.WpLaws.{FmC, fmOf, WpFn-mono}
+use sound.WpLaws.{fmOf}
 use denote.RattleType.{RattleType, owns}
 use denote.Laws.{Is, Tells, Lawful, Makes, shows}
 use denote.Memory.{mem, pointee}
@@ -34,8 +34,9 @@ use denote.Triple.Spec.{Meets, tripleOf}
 use denote.Triple.Statement.{Contract, Triple}
 use denote.Triple.Call.{calls-at}
 use denote.Triple.Clauses.{Ended, Clauses, ensured, lasts, closing}
-use denote.Triple.Walked.{says, needs, Stays, stay-ref, stay-dropped, walkOf, goes-ref, goes-dropped, ends-at, walked, walk-meets}
+use denote.Triple.Walked.{says, needs, Stays, stay-ref, stay-dropped, walkOf, goes-ref, goes-dropped, ends-at}
 use denote.Exit.{unchanged, yes}
+use Rattle.lent.proofs.Machine.{code-meets}
 
 pub record Plainly : Type 2 where
   pub Denot : Type 0
@@ -139,11 +140,11 @@ module _ (B P N S₀ : Plainly) (ν : Sym) where
             feqI ! (List Val) (vptr i o ∷ []) (vptr i o ∷ []) refl $ fjoin3 ! $ nothing ! $ nothing ! $ fjoin ! $ move ! (1 ∷ 0 ∷ []) $ fjoin ! $
             owned ! (row N) (Is (row N)) (n .makes 𝓤 H A W) (answer r) _ is-n $ move ! (1 ∷ 0 ∷ []) $ done !
 
-        module _ (C : Calls 𝓤 H) (Λ : Loops 𝓤 H) (fm : FmC 𝓤 H (W .laws) C) (g : Name) (known : Triple 𝓤 (C g) (G 𝓤 H A)) where
-          walk : ent 𝓤 (onEntry 𝓤 H A (f-ended .signature) (κ, tt) (q, tt) x at) (WpFn 𝓤 H C Λ (function g) (vptr i o ∷ p .val z ∷ []) Post)
+        module _ (g : Name) (𝓣 : Tables 𝓤 H) (known : Triple 𝓤 (𝓣 .C g) (G 𝓤 H A)) where
+          walk : ent 𝓤 (onEntry 𝓤 H A (f-ended .signature) (κ, tt) (q, tt) x at) (WpFn 𝓤 H (𝓣 .C) (𝓣 .Λ) (function g) (vptr i o ∷ p .val z ∷ []) Post)
           walk =
               qed W ((‵ (flft κ q) ⊛ ‵ ftrue) ∷ ‵ (owns (MutRef (named 0) κ (row B) ∷ row P ∷ []) x at) ∷ []) ∵ split ! $ move ! (2 ∷ []) $ fsplit ! $ fsplit3 ! $ keep ! (1 ∷ 2 ∷ 4 ∷ []) $
-              enter ! C Λ (function g) (vptr i o ∷ p .val z ∷ []) _ $
+              enter ! (𝓣 .C) (𝓣 .Λ) (function g) (vptr i o ∷ p .val z ∷ []) _ $
               alloc1 ! (λ l₀. alloc1 ! (λ l₁. alloc1 ! (λ l₂. alloc1 ! (λ l₃. alloc1 ! (λ l₄. alloc0 ! $ params1 ! $
               pass1 ! (init ! 6 refl (tt, tt)) $ pass1 ! (init ! 4 refl (p .lawful 𝓤 H A W .typed z _ is-z .0)) $ pass0 ! $
               -- the borrow is opened
@@ -152,7 +153,7 @@ module _ (B P N S₀ : Plainly) (ν : Sym) where
               -- [what the board owns; its cell; the open borrow; obs; auth; _4 at 5; …; _3 at 7; …; _2 at 9; …; _1 at 11; …; room for _0 at 13; …]
               assigns ! (of-opd ! (load ! (from ! (hop ! (look ! 11 refl) (stop !))) (look-raw ! 1 refl))) (from ! (stop !)) (init ! 5 refl (b .lawful 𝓤 H A W .typed h _ is-h .0)) $
               use1 W (raw (G 𝓤 H A .pre to-g)) goes-g $
-              calls-at ! fm (G 𝓤 H A) known to-g (and-then ! (load ! (from ! (stop !)) (look ! 5 refl)) (and-then ! (load ! (from ! (stop !)) (look ! 9 refl)) (no-more !))) (λ v.
+              calls-at ! (fmOf 𝓤 H (W .laws) 𝓣) (G 𝓤 H A) known to-g (and-then ! (load ! (from ! (stop !)) (look ! 5 refl)) (and-then ! (load ! (from ! (stop !)) (look ! 9 refl)) (no-more !))) (λ v.
               use1 W (later (some (λ (r : S₀ .Denot). (‵ ftrue ⊛ ‵ (S .own r (v ∷ []))) ⊛ raw (ensured 𝓤 H A g-ended (g-clauses 𝓤) tt (h, (z, tt)) tt r)))) (id⊢ 𝓤 _) $ await ! tt $ pick ! (λ r.
               split ! $ move ! (1 ∷ []) $ use1 W (raw (fact 𝓤 (r ≡ spec h z))) (gave h z r) $ heard ! (r ≡ spec h z) (λ e. split ! $ drop ! $
               peeks ! (row S) (Is (row S)) (shows 𝓤 H A (row S)) r (v ∷ []) (λ is.
@@ -166,11 +167,11 @@ module _ (B P N S₀ : Plainly) (ν : Sym) where
               move ! (11 ∷ 12 ∷ []) $ free1 ! $ move ! (9 ∷ 10 ∷ []) $ free1 ! $ move ! (7 ∷ 8 ∷ []) $ free1 ! $ move ! (5 ∷ 6 ∷ []) $ free1 ! $ move ! (3 ∷ 4 ∷ []) $ free1 ! $ free0 ! $
               keep ! (0 ∷ 1 ∷ 2 ∷ []) $ by ! (exits r e (apart r v is .second)))))))))))))
 
-      all : (𝓣 : Tables 𝓤 H) (g : Name) → Triple 𝓤 (𝓣 .C g) (G 𝓤 H A) → Meets 𝓤 H A (f-ended .signature) (WpFn 𝓤 H (𝓣 .C) (𝓣 .Λ) (function g)) (closing 𝓤 H A f-ended (f-clauses 𝓤))
-      all 𝓣 g known =
-          walk-meets 𝓤 H A f-ended stayed W (goes-ref 𝓤 H A W 1 0 tt (plain (λ _. row B)), (goes-dropped 𝓤 H A W 1 (plain (λ _. row P)) yes (λ κs z f. refl), tt)) (f-clauses 𝓤) (WpFn 𝓤 H (𝓣 .C) (𝓣 .Λ) (function g)) (WpFn-mono 𝓤 H (W .laws) 𝓣 (function g))
-          (walked 𝓤 H A f-ended stayed (f-clauses 𝓤) (WpFn 𝓤 H (𝓣 .C) (𝓣 .Λ) (function g)) (λ κs. (ptr-vals, ((λ z. p .val z ∷ []), tt))) (λ κs. (mut-tells (named 0) (κs .0) (row B), (p .tells, tt)))
-          (λ κs qs bounds a _ are. needs 𝓤 (Pre (now (a .0))) _ (λ ok. walk (κs .0) (qs .0) (a .0 .ptr .0) (a .0 .ptr .1) (a .0 .name) (a .0 .now) (a .1 .0) (are .1 .0) ok (𝓣 .C) (𝓣 .Λ) (fmOf 𝓤 H (W .laws) 𝓣) g known)))
+      all : (g : Name) (𝓣 : Tables 𝓤 H) → Triple 𝓤 (𝓣 .C g) (G 𝓤 H A) → Meets 𝓤 H A (f-ended .signature) (WpFn 𝓤 H (𝓣 .C) (𝓣 .Λ) (function g)) (closing 𝓤 H A f-ended (f-clauses 𝓤))
+      all g 𝓣 known =
+          code-meets 𝓤 H A W f-ended stayed (f-clauses 𝓤) (goes-ref 𝓤 H A W 1 0 tt (plain (λ _. row B)), (goes-dropped 𝓤 H A W 1 (plain (λ _. row P)) yes (λ κs z f. refl), tt)) 𝓣 (function g)
+          (λ κs. (ptr-vals, ((λ z. p .val z ∷ []), tt))) (λ κs. (mut-tells (named 0) (κs .0) (row B), (p .tells, tt)))
+          (λ κs qs bounds a _ are. needs 𝓤 (Pre (now (a .0))) _ (λ ok. walk (κs .0) (qs .0) (a .0 .ptr .0) (a .0 .ptr .1) (a .0 .name) (a .0 .now) (a .1 .0) (are .1 .0) ok g 𝓣 known))
 
 -- a wrapper: its types with their laws, how the struct comes apart, and what is said of g
 pub record Wrapping : Type 2 where
@@ -194,7 +195,7 @@ module _ (X : Wrapping) where
   abbrev pub Wrapped : {M : Type 1} (𝓤 : URA M) (H : Heap 𝓤) (A : Atoms 𝓤) → Contract 𝓤
   Wrapped 𝓤 H A = G (X .B) (X .P) (X .N) (X .S) (X .name) (X .b) (X .p) (X .n) (X .s) (X .board) (X .answer) (X .apart) (X .Pre) (X .spec) 𝓤 H A
 
-  pub wraps : {M : Type 1} (𝓤 : URA M) (H : Heap 𝓤) (A : Atoms 𝓤) (W : Given 𝓤 H A) (𝓣 : Tables 𝓤 H) (g : Name) → Triple 𝓤 (𝓣 .C g) (Wrapped 𝓤 H A)
+  pub wraps : {M : Type 1} (𝓤 : URA M) (H : Heap 𝓤) (A : Atoms 𝓤) (W : Given 𝓤 H A) (g : Name) (𝓣 : Tables 𝓤 H) → Triple 𝓤 (𝓣 .C g) (Wrapped 𝓤 H A)
       → Meets 𝓤 H A (f-ended (X .B) (X .P) (X .N) (X .S) (X .name) .signature) (WpFn 𝓤 H (𝓣 .C) (𝓣 .Λ) (function (X .B) (X .P) (X .N) (X .S) (X .name) g))
       (closing 𝓤 H A (f-ended (X .B) (X .P) (X .N) (X .S) (X .name)) (f-clauses (X .B) (X .P) (X .N) (X .S) (X .name) (X .b) (X .p) (X .n) (X .s) (X .board) (X .answer) (X .apart) (X .Pre) (X .spec) 𝓤))
   wraps 𝓤 H A W = all (X .B) (X .P) (X .N) (X .S) (X .name) (X .b) (X .p) (X .n) (X .s) (X .board) (X .answer) (X .apart) (X .Pre) (X .spec) 𝓤 H A W

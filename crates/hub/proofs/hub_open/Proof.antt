@@ -11,15 +11,15 @@ use base.Logic.{SProp, ent, sep, via, fst∗, snd∗, exE, id⊢}
 use base.Fml.{GName, Lft, Share, ftrue, fat, flft, fobs, fbor}
 use prog.Memory.{Memory}
 use prog.Routine.{Routine}
-use prog.Wp.{Heap, Calls, Loops, WpFn, Tables}
+use prog.Wp.{Heap, WpFn, Tables}
 use ghost.Atoms.{Atoms, sem}
 use contract.Monad.{Fun, fact}
-use contract.Running.{givenOf, tables, tablesOf}
+use contract.Running.{givenOf}
 use types.Kit.{Given, ‵, raw, later, some, _⊛_, ⋆, _$_, _∵_, !, qed, by, move, keep, drop, use1, use3, split, join, pick, rewrite, fsplit, fsplit3, fjoin, fjoin3, feqI, suffices, frame, await, done}
 use types.Run.{look, look-raw, init, store-raw, forget, stop, hop, fld, from, load, and-then, no-more, of-opd, assigns, land, returns, enter, alloc1, alloc0, params1, pass1, pass0, free1, free0}
 use types.Part.{whole, sub, look-in}
 use types.SemTy.{Body}
-use sound.WpLaws.{FmC, fmOf, WpFn-mono}
+use sound.WpLaws.{fmOf}
 use denote.RattleType.{RattleType, owns}
 use denote.Laws.{Is, shows}
 use denote.Memory.{mem}
@@ -36,8 +36,7 @@ use denote.Triple.Spec.{Meets, tripleOf}
 use denote.Triple.Statement.{Contract, Triple}
 use denote.Triple.Call.{calls-at}
 use denote.Triple.Clauses.{ensured, lasts}
-use denote.Triple.Table.{entered, cited}
-use denote.Triple.Walked.{says, Stays, stay-ref, stay-dropped, walkOf, goes-ref, goes-dropped, Walks, ends-at, walked, walk-meets}
+use denote.Triple.Walked.{says, Stays, stay-ref, stay-dropped, walkOf, goes-ref, goes-dropped, ends-at}
 use denote.Exit.{yes}
 use Rattle.serving.specs.Run.{openedBy}
 use Rattle.board.specs.declared.Board.{Board}
@@ -46,9 +45,9 @@ use Rattle.board.proofs.Board as B
 use Rattle.board.proofs.Board.Laws as B′
 use Rattle.serving.proofs.host.Opened as O
 use Rattle.serving.proofs.host.Opened.Laws as O′
+use Rattle.lent.proofs.Machine.{code-meets, routine-meets}
 use Rattle.serving.proofs.Machine.{board-vals}
 use Rattle.serving.proofs.host.open as open-fn
-use Rattle.serving.proofs.host.open.Symbol as open-def
 use Rattle.serving.proofs.host.open.Symbol.{name as #serving·open}
 use Rattle.serving.proofs.host.open.Met as open-thm
 use Rattle.hub.proofs.hub_open.Key.{name as #hub·hub-open}
@@ -104,13 +103,13 @@ module _ {M : Type 1} (𝓤 : URA M) (H : Heap 𝓤) (A : Atoms 𝓤) (W : Given
         feqI ! (List Val) (vptr b₀ o₀ ∷ []) (vptr b₀ o₀ ∷ []) refl $ fjoin3 ! $ nothing ! $ nothing ! $ fjoin ! $ move ! (1 ∷ 0 ∷ []) $ fjoin ! $
         owned ! i64 (Is i64) (sint-makes 𝓤 H A W w64) (r .code) _ is-c $ move ! (1 ∷ 0 ∷ []) $ done !
 
-    module _ (C : Calls 𝓤 H) (Λ : Loops 𝓤 H) (fm : FmC 𝓤 H (W .laws) C) (known : Triple 𝓤 (C #serving·open) Open) where
-      walk : ent 𝓤 (onEntry 𝓤 H A hub-open.signature (κ₀, (κ₁, tt)) (q₀, (q₁, tt)) x at) (WpFn 𝓤 H C Λ code.function (vptr b₀ o₀ ∷ only (slice-vals t) ∷ []) Post)
+    module _ (𝓣 : Tables 𝓤 H) (known : Triple 𝓤 (𝓣 .C #serving·open) Open) where
+      walk : ent 𝓤 (onEntry 𝓤 H A hub-open.signature (κ₀, (κ₁, tt)) (q₀, (q₁, tt)) x at) (WpFn 𝓤 H (𝓣 .C) (𝓣 .Λ) code.function (vptr b₀ o₀ ∷ only (slice-vals t) ∷ []) Post)
       walk =
           qed W ((‵ (flft κ₀ q₀) ⊛ ‵ (flft κ₁ q₁) ⊛ ‵ ftrue) ∷ ‵ (owns (MutRef (named 0) κ₀ B.the-row ∷ Table κ₁ ∷ []) x at) ∷ []) ∵
           split ! $ move ! (1 ∷ []) $ split ! $ move ! (3 ∷ []) $ fsplit ! $ fsplit3 ! $ drop ! $ move ! (2 ∷ []) $ fsplit ! $ keep ! (2 ∷ 3 ∷ 6 ∷ 0 ∷ 4 ∷ []) $
           -- [the board's obs, borrow and token; what the table owns; its token]
-          enter ! C Λ code.function (vptr b₀ o₀ ∷ only (slice-vals t) ∷ []) _ $
+          enter ! (𝓣 .C) (𝓣 .Λ) code.function (vptr b₀ o₀ ∷ only (slice-vals t) ∷ []) _ $
           alloc1 ! (λ l₀. alloc1 ! (λ l₁. alloc1 ! (λ l₂. alloc1 ! (λ l₃. alloc1 ! (λ l₄. alloc0 ! $ params1 ! $
           pass1 ! (init ! 6 refl (tt, tt)) $ pass1 ! (init ! 4 refl (shr-slice-lawful 𝓤 H A W (named 1) κ₁ u8 .typed t _ is-t .0)) $ pass0 ! $
           -- the borrow is opened
@@ -119,7 +118,7 @@ module _ {M : Type 1} (𝓤 : URA M) (H : Heap 𝓤) (A : Atoms 𝓤) (W : Given
           -- [what the board owns; its cell; the open borrow; obs; auth; _4 at 5; …; _3 at 7; …; _2 at 9; …; _1 at 11; …; room for _0 at 13; …; what the table owns at 15; its token]
           assigns ! (of-opd ! (load ! (from ! (hop ! (look ! 11 refl) (stop !))) (look-raw ! 1 refl))) (from ! (stop !)) (init ! 5 refl (LL.lawful B.the-type B′.the-laws 𝓤 H A W .typed h _ is-h .0)) $
           move ! (0 ∷ 15 ∷ 16 ∷ []) $ use3 W (raw (Open .pre to-open)) goes-open $
-          calls-at ! fm Open known to-open (and-then ! (load ! (from ! (stop !)) (look ! 5 refl)) (and-then ! (load ! (from ! (stop !)) (look ! 9 refl)) (no-more !))) (λ v.
+          calls-at ! (fmOf 𝓤 H (W .laws) 𝓣) Open known to-open (and-then ! (load ! (from ! (stop !)) (look ! 5 refl)) (and-then ! (load ! (from ! (stop !)) (look ! 9 refl)) (no-more !))) (λ v.
           use1 W (later (some (λ (r : Opened). ((‵ (flft κ₁ q₁) ⊛ ‵ ftrue) ⊛ ‵ (O.the-row .own r (v ∷ []))) ⊛ raw (ensured 𝓤 H A open-fn.ended (open-fn.clauses 𝓤 H A at-mem run) (κ₁, tt) (h, (t, tt)) tt r)))) (id⊢ 𝓤 _) $ await ! tt $ pick ! (λ r.
           split ! $ move ! (1 ∷ []) $ use1 W (raw (fact 𝓤 (r ≡ openedBy h (t .now)))) (gave κ₁ h t r) $ heard ! (r ≡ openedBy h (t .now)) (λ e. split ! $ split ! $ move ! (1 ∷ []) $ drop ! $ move ! (1 ∷ []) $
           peeks ! O.the-row (Is O.the-row) (shows 𝓤 H A O.the-row) r (v ∷ []) (λ is. let owed = LL.owed O.the-type O′.the-laws r _ is in
@@ -134,23 +133,13 @@ module _ {M : Type 1} (𝓤 : URA M) (H : Heap 𝓤) (A : Atoms 𝓤) (W : Given
           move ! (12 ∷ 13 ∷ []) $ free1 ! $ move ! (10 ∷ 11 ∷ []) $ free1 ! $ move ! (8 ∷ 9 ∷ []) $ free1 ! $ move ! (6 ∷ 7 ∷ []) $ free1 ! $ move ! (4 ∷ 5 ∷ []) $ free1 ! $ free0 ! $
           keep ! (0 ∷ 1 ∷ 2 ∷ 3 ∷ []) $ by ! (exits r e (owed .1 .0)))))))))))))
 
-module _ {M : Type 1} (𝓤 : URA M) (H : Heap 𝓤) (A : Atoms 𝓤) (W : Given 𝓤 H A) (mem : Memory → SProp 𝓤) (run : Routine → Fun 𝓤) where
-  hub-open-walks : (C : Calls 𝓤 H) (Λ : Loops 𝓤 H) → FmC 𝓤 H (W .laws) C → Triple 𝓤 (C #serving·open) (Open 𝓤 H A W mem run) → Walks 𝓤 H A hub-open.ended stayed (WpFn 𝓤 H C Λ code.function) (hub-open.clauses 𝓤 H A mem run)
-  hub-open-walks C Λ fm known = walked 𝓤 H A hub-open.ended stayed (hub-open.clauses 𝓤 H A mem run) (WpFn 𝓤 H C Λ code.function)
+  meets : (𝓣 : Tables 𝓤 H) → Triple 𝓤 (𝓣 .C #serving·open) Open → Meets 𝓤 H A hub-open.signature (WpFn 𝓤 H (𝓣 .C) (𝓣 .Λ) code.function) (hub-open.spec 𝓤 H A at-mem run)
+  meets 𝓣 known =
+      code-meets 𝓤 H A W hub-open.ended stayed (hub-open.clauses 𝓤 H A at-mem run)
+      (goes-ref 𝓤 H A W 2 0 tt (plain (λ _. B.the-row)), (goes-dropped 𝓤 H A W 2 (shrSliceOf (1 ∷ []) tt (plain (λ _. u8))) yes (λ κs x f. refl), tt)) 𝓣 code.function
       (λ κs. (ptr-vals, (slice-vals, tt))) (λ κs. (mut-tells (named 0) (κs .0) B.the-row, (shr-slice-tells (named 1) (κs .1 .0) u8, tt)))
-      (λ κs qs bounds a g are. via 𝓤 _ (fst∗ 𝓤 _ (hub-open.clauses 𝓤 H A mem run κs a .requires g)) (walk 𝓤 H A W mem run (κs .0) (κs .1 .0) (qs .0) (qs .1 .0) (a .0 .ptr .0) (a .0 .ptr .1) (a .0 .name) (a .0 .now) (a .1 .0) (are .1 .0) C Λ fm known))
-
-hub-open-meets : {M : Type 1} (𝓤 : URA M) (H : Heap 𝓤) (A : Atoms 𝓤) (W : Given 𝓤 H A) (mem : Memory → SProp 𝓤) (run : Routine → Fun 𝓤) (𝓣 : Tables 𝓤 H) → Triple 𝓤 (𝓣 .C #serving·open) (Open 𝓤 H A W mem run)
-    → Meets 𝓤 H A hub-open.signature (WpFn 𝓤 H (𝓣 .C) (𝓣 .Λ) code.function) (hub-open.spec 𝓤 H A mem run)
-hub-open-meets 𝓤 H A W mem run 𝓣 known =
-    walk-meets 𝓤 H A hub-open.ended stayed W
-    (goes-ref 𝓤 H A W 2 0 tt (plain (λ _. B.the-row)), (goes-dropped 𝓤 H A W 2 (shrSliceOf (1 ∷ []) tt (plain (λ _. u8))) yes (λ κs x f. refl), tt))
-    (hub-open.clauses 𝓤 H A mem run) (WpFn 𝓤 H (𝓣 .C) (𝓣 .Λ) code.function) (WpFn-mono 𝓤 H (W .laws) 𝓣 code.function) (hub-open-walks 𝓤 H A W mem run (𝓣 .C) (𝓣 .Λ) (fmOf 𝓤 H (W .laws) 𝓣) known)
+      (λ κs qs bounds a g are. via 𝓤 _ (fst∗ 𝓤 _ (hub-open.clauses 𝓤 H A at-mem run κs a .requires g)) (walk (κs .0) (κs .1 .0) (qs .0) (qs .1 .0) (a .0 .ptr .0) (a .0 .ptr .1) (a .0 .name) (a .0 .now) (a .1 .0) (are .1 .0) 𝓣 known))
 
 pub hub-open-spec : {M : Type 1} → stated.statement M
-unfolding code.routine tablesOf
-hub-open-spec 𝓤 H 𝓜 𝓖 𝓡 =
-    entered 𝓤 H (tripleOf 𝓤 H (𝓖 .A) hub-open.signature (hub-open.spec 𝓤 H (𝓖 .A) (𝓜 .mem) (𝓡 .run)))
-    (tables 𝓤 H 𝓜 𝓡 code.env .C) (tables 𝓤 H 𝓜 𝓡 code.env .Λ) #hub·hub-open code.function (code.unfolded 𝓤 H 𝓜 𝓡)
-    (hub-open-meets 𝓤 H (𝓖 .A) (givenOf 𝓤 H 𝓜 𝓖) (𝓜 .mem) (𝓡 .run) (tablesOf 𝓤 H 𝓜 (tables 𝓤 H 𝓜 𝓡 code.env))
-    (cited 𝓤 H (Open 𝓤 H (𝓖 .A) (givenOf 𝓤 H 𝓜 𝓖) (𝓜 .mem) (𝓡 .run)) 𝓜 𝓡 code.env #serving·open open-def.routine code.calls-serving·host·open (open-thm.met 𝓤 H 𝓜 𝓖 𝓡)))
+unfolding code.routine
+hub-open-spec 𝓤 H 𝓜 𝓖 𝓡 = routine-meets 𝓤 H 𝓜 𝓡 code.env #hub·hub-open code.function _ (code.unfolded 𝓤 H 𝓜 𝓡) code.calls-serving·host·open (open-thm.met 𝓤 H 𝓜 𝓖 𝓡) (meets 𝓤 H (𝓖 .A) (givenOf 𝓤 H 𝓜 𝓖) (𝓜 .mem) (𝓡 .run))

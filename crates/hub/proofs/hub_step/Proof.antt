@@ -11,15 +11,15 @@ use base.Logic.{SProp, ent, snd∗, exE, id⊢}
 use base.Fml.{GName, Lft, Share, ftrue, fat, flft, fobs, fbor}
 use prog.Memory.{Memory}
 use prog.Routine.{Routine}
-use prog.Wp.{Heap, Calls, Loops, WpFn, Tables}
+use prog.Wp.{Heap, WpFn, Tables}
 use ghost.Atoms.{Atoms, sem}
 use contract.Monad.{Fun, fact}
-use contract.Running.{givenOf, tables, tablesOf}
+use contract.Running.{givenOf}
 use types.Kit.{Given, ‵, raw, later, some, _⊛_, ⋆, _$_, _∵_, !, qed, by, move, keep, drop, use1, split, join, pick, rewrite, fsplit, fsplit3, fjoin, fjoin3, feqI, suffices, frame, await, done}
 use types.Run.{look, look-raw, init, store-raw, forget, stop, hop, fld, from, load, unit-lit, and-then, no-more, of-opd, assigns, land, returns, enter, alloc1, alloc0, params1, pass1, pass0, free1, free0}
 use types.Part.{whole, sub, look-in}
 use types.SemTy.{Body}
-use sound.WpLaws.{FmC, fmOf, WpFn-mono}
+use sound.WpLaws.{fmOf}
 use denote.RattleType.{owns}
 use denote.Laws.{Is, shows}
 use denote.Memory.{mem}
@@ -36,8 +36,7 @@ use denote.Triple.Spec.{Meets, tripleOf}
 use denote.Triple.Statement.{Contract, Triple}
 use denote.Triple.Call.{calls-at}
 use denote.Triple.Clauses.{ensured, lasts}
-use denote.Triple.Table.{entered, cited}
-use denote.Triple.Walked.{says, needs, Stays, stay-ref, stay-dropped, walkOf, goes-ref, goes-dropped, Walks, ends-at, walked, walk-meets}
+use denote.Triple.Walked.{says, needs, Stays, stay-ref, stay-dropped, walkOf, goes-ref, goes-dropped, ends-at}
 use denote.Exit.{yes}
 use Rattle.board.specs.Reached.{Reached}
 use Rattle.serving.specs.Run.{steppedBy}
@@ -47,10 +46,9 @@ use Rattle.board.proofs.Board as B
 use Rattle.board.proofs.Board.Laws as B′
 use Rattle.serving.proofs.host.Told as T
 use Rattle.serving.proofs.host.Told.Laws as T′
-use Rattle.lent.proofs.Machine.{Eight, Twelve, bytes-vals}
+use Rattle.lent.proofs.Machine.{Eight, Twelve, bytes-vals, code-meets, routine-meets}
 use Rattle.serving.proofs.Machine.{board-vals}
 use Rattle.serving.proofs.host.tell as tell
-use Rattle.serving.proofs.host.tell.Symbol as tell-def
 use Rattle.serving.proofs.host.tell.Symbol.{name as #serving·tell}
 use Rattle.serving.proofs.host.tell.Met as tell-thm
 use Rattle.hub.proofs.hub_step.Key.{name as #hub·hub-step}
@@ -104,14 +102,14 @@ module _ {M : Type 1} (𝓤 : URA M) (H : Heap 𝓤) (A : Atoms 𝓤) (W : Given
         nothing ! $ move ! (3 ∷ 4 ∷ []) $ feqI ! (List Val) (vptr b₂ o₂ ∷ []) (vptr b₂ o₂ ∷ []) refl $ fjoin3 ! $ fjoin ! $ nothing ! $ fjoin ! $
         move ! (1 ∷ 2 ∷ []) $ feqI ! (List Val) (vptr b₀ o₀ ∷ []) (vptr b₀ o₀ ∷ []) refl $ fjoin3 ! $ fjoin ! $ feqI ! (List Val) (vunit ∷ []) (vunit ∷ []) refl $ move ! (1 ∷ 0 ∷ []) $ done !
 
-    module _ (C : Calls 𝓤 H) (Λ : Loops 𝓤 H) (fm : FmC 𝓤 H (W .laws) C) (known : Triple 𝓤 (C #serving·tell) Tell) where
-      walk : ent 𝓤 (onEntry 𝓤 H A hub-step.signature (κ₀, (κ₁, (κ₂, tt))) (q₀, (q₁, (q₂, tt))) x at) (WpFn 𝓤 H C Λ code.function (vptr b₀ o₀ ∷ vptr b₁ o₁ ∷ vptr b₂ o₂ ∷ []) Post)
+    module _ (𝓣 : Tables 𝓤 H) (known : Triple 𝓤 (𝓣 .C #serving·tell) Tell) where
+      walk : ent 𝓤 (onEntry 𝓤 H A hub-step.signature (κ₀, (κ₁, (κ₂, tt))) (q₀, (q₁, (q₂, tt))) x at) (WpFn 𝓤 H (𝓣 .C) (𝓣 .Λ) code.function (vptr b₀ o₀ ∷ vptr b₁ o₁ ∷ vptr b₂ o₂ ∷ []) Post)
       walk =
           qed W ((‵ (flft κ₀ q₀) ⊛ ‵ (flft κ₁ q₁) ⊛ ‵ (flft κ₂ q₂) ⊛ ‵ ftrue) ∷ ‵ (owns (MutRef (named 0) κ₀ B.the-row ∷ ShrRef (named 1) κ₁ Eight ∷ MutRef (named 2) κ₂ Twelve ∷ []) x at) ∷ []) ∵
           split ! $ move ! (1 ∷ []) $ split ! $ move ! (1 ∷ []) $ split ! $ move ! (4 ∷ []) $ fsplit ! $ fsplit3 ! $ drop ! $
           move ! (2 ∷ []) $ fsplit ! $ fsplit3 ! $ keep ! (2 ∷ 3 ∷ 4 ∷ 5 ∷ 6 ∷ 8 ∷ 9 ∷ []) $ move ! (1 ∷ []) $ fsplit ! $ fsplit3 ! $ keep ! (1 ∷ 2 ∷ 7 ∷ 5 ∷ 6 ∷ 9 ∷ 4 ∷ 8 ∷ []) $
           -- [the answer's obs, borrow and token; the board's obs, borrow and token; the request's borrow and token]
-          enter ! C Λ code.function (vptr b₀ o₀ ∷ vptr b₁ o₁ ∷ vptr b₂ o₂ ∷ []) _ $
+          enter ! (𝓣 .C) (𝓣 .Λ) code.function (vptr b₀ o₀ ∷ vptr b₁ o₁ ∷ vptr b₂ o₂ ∷ []) _ $
           alloc1 ! (λ l₀. alloc1 ! (λ l₁. alloc1 ! (λ l₂. alloc1 ! (λ l₃. alloc1 ! (λ l₄. alloc1 ! (λ l₅. alloc1 ! (λ l₆. alloc0 ! $ params1 ! $
           pass1 ! (init ! 10 refl (tt, tt)) $ pass1 ! (init ! 8 refl (tt, tt)) $ pass1 ! (init ! 6 refl (tt, tt)) $ pass0 ! $
           -- the borrows are opened
@@ -124,7 +122,7 @@ module _ {M : Type 1} (𝓤 : URA M) (H : Heap 𝓤) (A : Atoms 𝓤) (W : Given
           assigns ! (of-opd ! (load ! (from ! (hop ! (look ! 24 refl) (stop !))) (look-raw ! 6 refl))) (from ! (stop !)) (init ! 16 refl (LL.lawful B.the-type B′.the-laws 𝓤 H A W .typed h _ is-h .0)) $
           assigns ! (of-opd ! (load ! (from ! (hop ! (look ! 22 refl) (stop !))) (look-raw ! 11 refl))) (from ! (stop !)) (init ! 14 refl (array-lawful 𝓤 H A W u8 (uint-lawful 𝓤 H A W w8) 8 .typed p _ is-p .0)) $
           use1 W (raw (Tell .pre to-tell)) (goes-tell is-p) $
-          calls-at ! fm Tell known to-tell (and-then ! (load ! (from ! (stop !)) (look ! 16 refl)) (and-then ! (load ! (from ! (stop !)) (look ! 14 refl)) (no-more !))) (λ v.
+          calls-at ! (fmOf 𝓤 H (W .laws) 𝓣) Tell known to-tell (and-then ! (load ! (from ! (stop !)) (look ! 16 refl)) (and-then ! (load ! (from ! (stop !)) (look ! 14 refl)) (no-more !))) (λ v.
           use1 W (later (some (λ (r : Told). (‵ ftrue ⊛ ‵ (T.the-row .own r (v ∷ []))) ⊛ raw (ensured 𝓤 H A tell.ended (tell.clauses 𝓤 H A at-mem run) tt (h, (p, tt)) tt r)))) (id⊢ 𝓤 _) $ await ! tt $ pick ! (λ r.
           split ! $ move ! (1 ∷ []) $ use1 W (raw (fact 𝓤 (r ≡ steppedBy h p))) (gave h p r) $ heard ! (r ≡ steppedBy h p) (λ e. split ! $ drop ! $
           peeks ! T.the-row (Is T.the-row) (shows 𝓤 H A T.the-row) r (v ∷ []) (λ is.
@@ -141,24 +139,14 @@ module _ {M : Type 1} (𝓤 : URA M) (H : Heap 𝓤) (A : Atoms 𝓤) (W : Given
           move ! (20 ∷ 21 ∷ []) $ free1 ! $ move ! (18 ∷ 19 ∷ []) $ free1 ! $ move ! (16 ∷ 17 ∷ []) $ free1 ! $ move ! (14 ∷ 15 ∷ []) $ free1 ! $ move ! (12 ∷ 13 ∷ []) $ free1 ! $ move ! (10 ∷ 11 ∷ []) $ free1 ! $ move ! (8 ∷ 9 ∷ []) $ free1 ! $ free0 ! $
           keep ! (0 ∷ 1 ∷ 2 ∷ 3 ∷ 4 ∷ 5 ∷ 6 ∷ []) $ by ! (exits r e)))))))))))))))))
 
-module _ {M : Type 1} (𝓤 : URA M) (H : Heap 𝓤) (A : Atoms 𝓤) (W : Given 𝓤 H A) (mem : Memory → SProp 𝓤) (run : Routine → Fun 𝓤) where
-  hub-step-walks : (C : Calls 𝓤 H) (Λ : Loops 𝓤 H) → FmC 𝓤 H (W .laws) C → Triple 𝓤 (C #serving·tell) (Tell 𝓤 H A W mem run) → Walks 𝓤 H A hub-step.ended stayed (WpFn 𝓤 H C Λ code.function) (hub-step.clauses 𝓤 H A mem run)
-  hub-step-walks C Λ fm known = walked 𝓤 H A hub-step.ended stayed (hub-step.clauses 𝓤 H A mem run) (WpFn 𝓤 H C Λ code.function)
+  meets : (𝓣 : Tables 𝓤 H) → Triple 𝓤 (𝓣 .C #serving·tell) Tell → Meets 𝓤 H A hub-step.signature (WpFn 𝓤 H (𝓣 .C) (𝓣 .Λ) code.function) (hub-step.spec 𝓤 H A at-mem run)
+  meets 𝓣 known =
+      code-meets 𝓤 H A W hub-step.ended stayed (hub-step.clauses 𝓤 H A at-mem run)
+      (goes-ref 𝓤 H A W 3 0 tt (plain (λ _. B.the-row)), (goes-dropped 𝓤 H A W 3 (shrRefTo (1 ∷ []) tt (plain (λ _. Eight))) yes (λ κs x f. refl), (goes-ref 𝓤 H A W 3 2 tt (plain (λ _. Twelve)), tt))) 𝓣 code.function
       (λ κs. (ptr-vals, (ptr-vals, (ptr-vals, tt)))) (λ κs. (mut-tells (named 0) (κs .0) B.the-row, (shr-tells (named 1) (κs .1 .0) Eight, (mut-tells (named 2) (κs .1 .1 .0) Twelve, tt))))
-      (λ κs qs bounds a g are. needs 𝓤 (Reached (a .0 .now)) _ (λ ok. walk 𝓤 H A W mem run (κs .0) (κs .1 .0) (κs .1 .1 .0) (qs .0) (qs .1 .0) (qs .1 .1 .0) (a .0 .ptr .0) (a .0 .ptr .1) (a .0 .name) (a .0 .now)
-      (a .1 .0 .ptr .0) (a .1 .0 .ptr .1) (a .1 .0 .name) (a .1 .0 .now) (a .1 .1 .0 .ptr .0) (a .1 .1 .0 .ptr .1) (a .1 .1 .0 .name) (a .1 .1 .0 .now) ok C Λ fm known))
-
-hub-step-meets : {M : Type 1} (𝓤 : URA M) (H : Heap 𝓤) (A : Atoms 𝓤) (W : Given 𝓤 H A) (mem : Memory → SProp 𝓤) (run : Routine → Fun 𝓤) (𝓣 : Tables 𝓤 H) → Triple 𝓤 (𝓣 .C #serving·tell) (Tell 𝓤 H A W mem run)
-    → Meets 𝓤 H A hub-step.signature (WpFn 𝓤 H (𝓣 .C) (𝓣 .Λ) code.function) (hub-step.spec 𝓤 H A mem run)
-hub-step-meets 𝓤 H A W mem run 𝓣 known =
-    walk-meets 𝓤 H A hub-step.ended stayed W
-    (goes-ref 𝓤 H A W 3 0 tt (plain (λ _. B.the-row)), (goes-dropped 𝓤 H A W 3 (shrRefTo (1 ∷ []) tt (plain (λ _. Eight))) yes (λ κs x f. refl), (goes-ref 𝓤 H A W 3 2 tt (plain (λ _. Twelve)), tt)))
-    (hub-step.clauses 𝓤 H A mem run) (WpFn 𝓤 H (𝓣 .C) (𝓣 .Λ) code.function) (WpFn-mono 𝓤 H (W .laws) 𝓣 code.function) (hub-step-walks 𝓤 H A W mem run (𝓣 .C) (𝓣 .Λ) (fmOf 𝓤 H (W .laws) 𝓣) known)
+      (λ κs qs bounds a g are. needs 𝓤 (Reached (a .0 .now)) _ (λ ok. walk (κs .0) (κs .1 .0) (κs .1 .1 .0) (qs .0) (qs .1 .0) (qs .1 .1 .0) (a .0 .ptr .0) (a .0 .ptr .1) (a .0 .name) (a .0 .now)
+      (a .1 .0 .ptr .0) (a .1 .0 .ptr .1) (a .1 .0 .name) (a .1 .0 .now) (a .1 .1 .0 .ptr .0) (a .1 .1 .0 .ptr .1) (a .1 .1 .0 .name) (a .1 .1 .0 .now) ok 𝓣 known))
 
 pub hub-step-spec : {M : Type 1} → stated.statement M
-unfolding code.routine tablesOf
-hub-step-spec 𝓤 H 𝓜 𝓖 𝓡 =
-    entered 𝓤 H (tripleOf 𝓤 H (𝓖 .A) hub-step.signature (hub-step.spec 𝓤 H (𝓖 .A) (𝓜 .mem) (𝓡 .run)))
-    (tables 𝓤 H 𝓜 𝓡 code.env .C) (tables 𝓤 H 𝓜 𝓡 code.env .Λ) #hub·hub-step code.function (code.unfolded 𝓤 H 𝓜 𝓡)
-    (hub-step-meets 𝓤 H (𝓖 .A) (givenOf 𝓤 H 𝓜 𝓖) (𝓜 .mem) (𝓡 .run) (tablesOf 𝓤 H 𝓜 (tables 𝓤 H 𝓜 𝓡 code.env))
-    (cited 𝓤 H (Tell 𝓤 H (𝓖 .A) (givenOf 𝓤 H 𝓜 𝓖) (𝓜 .mem) (𝓡 .run)) 𝓜 𝓡 code.env #serving·tell tell-def.routine code.calls-serving·host·tell (tell-thm.met 𝓤 H 𝓜 𝓖 𝓡)))
+unfolding code.routine
+hub-step-spec 𝓤 H 𝓜 𝓖 𝓡 = routine-meets 𝓤 H 𝓜 𝓡 code.env #hub·hub-step code.function _ (code.unfolded 𝓤 H 𝓜 𝓡) code.calls-serving·host·tell (tell-thm.met 𝓤 H 𝓜 𝓖 𝓡) (meets 𝓤 H (𝓖 .A) (givenOf 𝓤 H 𝓜 𝓖) (𝓜 .mem) (𝓡 .run))

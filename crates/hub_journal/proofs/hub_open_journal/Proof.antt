@@ -12,15 +12,15 @@ use base.Logic.{SProp, ent, sep, via, fst∗, id⊢}
 use base.Fml.{GName, Lft, Share, ftrue, fat, flft, fobs, fbor}
 use prog.Memory.{Memory}
 use prog.Routine.{Routine}
-use prog.Wp.{Heap, Calls, Loops, WpFn, Tables}
+use prog.Wp.{Heap, WpFn, Tables}
 use ghost.Atoms.{Atoms, sem}
 use contract.Monad.{Fun, fact}
-use contract.Running.{givenOf, tables, tablesOf}
+use contract.Running.{givenOf}
 use types.Kit.{Given, ‵, raw, later, some, _⊛_, ⋆, _$_, _∵_, !, qed, by, move, keep, drop, use1, use3, split, join, pick, rewrite, fsplit, fsplit3, fjoin, fjoin3, feqI, feqL, suffices, frame, await, done}
 use types.Run.{look, look-raw, init, store-raw, forget, stop, hop, fld, from, load, addr, and-then, no-more, of-opd, assigns, land, returns, enter, alloc1, alloc0, params1, pass1, pass0, free1, free0}
 use types.Part.{agg, whole, sub, look-in}
 use types.SemTy.{Body}
-use sound.WpLaws.{FmC, fmOf, WpFn-mono}
+use sound.WpLaws.{fmOf}
 use denote.RattleType.{RattleType, owns}
 use denote.Laws.{Is, shows}
 use denote.Memory.{mem}
@@ -37,8 +37,7 @@ use denote.Triple.Spec.{Meets, tripleOf}
 use denote.Triple.Statement.{Contract, Triple}
 use denote.Triple.Call.{calls-at}
 use denote.Triple.Clauses.{ensured, lasts}
-use denote.Triple.Table.{entered, cited}
-use denote.Triple.Walked.{says, Stays, stay-ref, stay-dropped, gave-slice, walkOf, goes-ref, goes-dropped, goes-gave-slice, Walks, ends-at, walked, walk-meets}
+use denote.Triple.Walked.{says, Stays, stay-ref, stay-dropped, gave-slice, walkOf, goes-ref, goes-dropped, goes-gave-slice, ends-at}
 use denote.Exit.{yes}
 use Rattle.fresh.specs.Fresh.{openedBy, journalOpened}
 use Rattle.journal.specs.declared.Journaled.{Journaled}
@@ -48,9 +47,9 @@ use Rattle.journal.proofs.Journaled.Laws as J′
 use Rattle.fresh.proofs.Opened as O
 use Rattle.fresh.proofs.Opened.Laws as O′
 use Rattle.fresh.proofs.open as open-fn
-use Rattle.fresh.proofs.open.Symbol as open-def
 use Rattle.fresh.proofs.open.Symbol.{name as #fresh·open}
 use Rattle.fresh.proofs.open.Met as open-thm
+use Rattle.lent.proofs.Machine.{code-meets, routine-meets}
 use Rattle.hub_journal.proofs.Journal.{journaled-vals}
 use Rattle.hub_journal.proofs.hub_open_journal.Key.{name as #hub_journal·hub-open-journal}
 use Rattle.hub_journal.proofs.hub_open_journal as hub-open-journal
@@ -112,13 +111,13 @@ module _ {M : Type 1} (𝓤 : URA M) (H : Heap 𝓤) (A : Atoms 𝓤) (W : Given
         nothing ! $ move ! (3 ∷ 0 ∷ []) $ fjoin ! $ nothing ! $ fjoin ! $ move ! (1 ∷ 2 ∷ []) $ feqI ! (List Val) (vptr b₀ o₀ ∷ []) (vptr b₀ o₀ ∷ []) refl $ fjoin3 ! $ fjoin ! $
         owned ! i64 (Is i64) (sint-makes 𝓤 H A W w64) (r .code) _ is-c $ move ! (1 ∷ 0 ∷ []) $ done !
 
-    module _ (C : Calls 𝓤 H) (Λ : Loops 𝓤 H) (fm : FmC 𝓤 H (W .laws) C) (known : Triple 𝓤 (C #fresh·open) Open) where
-      walk : ent 𝓤 (onEntry 𝓤 H A hub-open-journal.signature (κ₀, (κ₁, (κ₂, tt))) (q₀, (q₁, (q₂, tt))) x at) (WpFn 𝓤 H C Λ code.function (vptr b₀ o₀ ∷ only (slice-vals t) ∷ sliceVal (b₂, o₂) (length ys) ∷ []) Post)
+    module _ (𝓣 : Tables 𝓤 H) (known : Triple 𝓤 (𝓣 .C #fresh·open) Open) where
+      walk : ent 𝓤 (onEntry 𝓤 H A hub-open-journal.signature (κ₀, (κ₁, (κ₂, tt))) (q₀, (q₁, (q₂, tt))) x at) (WpFn 𝓤 H (𝓣 .C) (𝓣 .Λ) code.function (vptr b₀ o₀ ∷ only (slice-vals t) ∷ sliceVal (b₂, o₂) (length ys) ∷ []) Post)
       walk =
           qed W ((‵ (flft κ₀ q₀) ⊛ ‵ (flft κ₁ q₁) ⊛ ‵ (flft κ₂ q₂) ⊛ ‵ ftrue) ∷ ‵ (owns (MutRef (named 0) κ₀ J.the-row ∷ Table κ₁ ∷ MutSlice (named 2) κ₂ u8 ∷ []) x at) ∷ []) ∵
           split ! $ move ! (1 ∷ []) $ split ! $ move ! (1 ∷ []) $ split ! $ move ! (4 ∷ []) $ fsplit ! $ fsplit3 ! $ drop ! $ move ! (2 ∷ []) $ fsplit ! $ move ! (1 ∷ []) $ fsplit ! $ keep ! (3 ∷ 4 ∷ 8 ∷ 2 ∷ 7 ∷ 0 ∷ 5 ∷ []) $
           -- [the board's obs, borrow and token; what the table owns; its token; what the journal owns; its token]
-          enter ! C Λ code.function (vptr b₀ o₀ ∷ only (slice-vals t) ∷ sliceVal (b₂, o₂) (length ys) ∷ []) _ $
+          enter ! (𝓣 .C) (𝓣 .Λ) code.function (vptr b₀ o₀ ∷ only (slice-vals t) ∷ sliceVal (b₂, o₂) (length ys) ∷ []) _ $
           alloc1 ! (λ l₀. alloc1 ! (λ l₁. alloc1 ! (λ l₂. alloc1 ! (λ l₃. alloc1 ! (λ l₄. alloc1 ! (λ l₅. alloc1 ! (λ l₆. alloc1 ! (λ l₇. alloc0 ! $ params1 ! $
           pass1 ! (init ! 12 refl (tt, tt)) $ pass1 ! (init ! 10 refl (shr-slice-lawful 𝓤 H A W (named 1) κ₁ u8 .typed t _ is-t .0)) $ pass1 ! (init ! 8 refl (tt, (tt, (record { fits = room .0 }, tt)))) $ pass0 ! $
           -- the board's borrow is opened
@@ -129,7 +128,7 @@ module _ {M : Type 1} (𝓤 : URA M) (H : Heap 𝓤) (A : Atoms 𝓤) (W : Given
           assigns ! (addr ! (from ! (fld ! refl (hop ! (look-in ! 13 (sub ! 0 refl (whole !))) (stop !))))) (from ! (stop !)) (init ! 7 refl (tt, tt)) $
           assigns ! (agg ! (and-then ! (load ! (from ! (stop !)) (look ! 7 refl)) (and-then ! (load ! (from ! (fld ! refl (stop !))) (look-in ! 13 (sub ! 1 refl (whole !)))) (no-more !)))) (from ! (stop !)) (init ! 5 refl (tt, (tt, (record { fits = room .0 }, tt)))) $
           move ! (21 ∷ 22 ∷ []) $ join ! $ move ! (22 ∷ 23 ∷ []) $ join ! $ move ! (2 ∷ 1 ∷ 0 ∷ []) $ use3 W (raw (Open .pre to-open)) goes-open $
-          calls-at ! fm Open known to-open (and-then ! (load ! (from ! (stop !)) (look ! 9 refl)) (and-then ! (load ! (from ! (stop !)) (look ! 15 refl)) (and-then ! (load ! (from ! (stop !)) (look ! 5 refl)) (no-more !)))) (λ v.
+          calls-at ! (fmOf 𝓤 H (W .laws) 𝓣) Open known to-open (and-then ! (load ! (from ! (stop !)) (look ! 9 refl)) (and-then ! (load ! (from ! (stop !)) (look ! 15 refl)) (and-then ! (load ! (from ! (stop !)) (look ! 5 refl)) (no-more !)))) (λ v.
           use1 W (later (some (λ (r : Opened). ((‵ (flft κ₁ q₁) ⊛ ‵ (flft κ₂ q₂) ⊛ ‵ ftrue) ⊛ ‵ (O.the-row .own r (v ∷ []))) ⊛ raw (ensured 𝓤 H A open-fn.ended (open-fn.clauses 𝓤 H A at-mem run) (κ₁, (κ₂, tt)) (h, (t, (j, tt))) tt r)))) (id⊢ 𝓤 _) $ await ! tt $ pick ! (λ r.
           split ! $ move ! (1 ∷ []) $ use1 W (some (λ (zs : Unit {0} × (Unit {0} × (List ℕ × Unit {0}))). ‵ (lasts open-fn.ended (κ₁, (κ₂, tt)) (h, (t, (j, tt))) zs) ⊛ raw (fact 𝓤 (Did r (zs .1 .1 .0))))) (id⊢ 𝓤 _) $ pick ! (λ zs.
           split ! $ move ! (1 ∷ []) $ heard ! (Did r (zs .1 .1 .0)) (λ e. fsplit ! $ drop ! $ fsplit ! $ drop ! $ fsplit ! $ fsplit ! $ move ! (1 ∷ []) $ feqL ! (λ l.
@@ -147,24 +146,14 @@ module _ {M : Type 1} (𝓤 : URA M) (H : Heap 𝓤) (A : Atoms 𝓤) (W : Given
           move ! (22 ∷ 23 ∷ []) $ free1 ! $ move ! (20 ∷ 21 ∷ []) $ free1 ! $ move ! (18 ∷ 19 ∷ []) $ free1 ! $ move ! (16 ∷ 17 ∷ []) $ free1 ! $ move ! (14 ∷ 15 ∷ []) $ free1 ! $ move ! (12 ∷ 13 ∷ []) $ free1 ! $ move ! (10 ∷ 11 ∷ []) $ free1 ! $ move ! (8 ∷ 9 ∷ []) $ free1 ! $ free0 ! $
           keep ! (0 ∷ 1 ∷ 2 ∷ 5 ∷ 3 ∷ 6 ∷ []) $ by ! (exits r (zs .1 .1 .0) e l (owed .1 .0))))))))))))))))))
 
-module _ {M : Type 1} (𝓤 : URA M) (H : Heap 𝓤) (A : Atoms 𝓤) (W : Given 𝓤 H A) (mem : Memory → SProp 𝓤) (run : Routine → Fun 𝓤) where
-  hub-open-journal-walks : (C : Calls 𝓤 H) (Λ : Loops 𝓤 H) → FmC 𝓤 H (W .laws) C → Triple 𝓤 (C #fresh·open) (Open 𝓤 H A W mem run) → Walks 𝓤 H A hub-open-journal.ended stayed (WpFn 𝓤 H C Λ code.function) (hub-open-journal.clauses 𝓤 H A mem run)
-  hub-open-journal-walks C Λ fm known = walked 𝓤 H A hub-open-journal.ended stayed (hub-open-journal.clauses 𝓤 H A mem run) (WpFn 𝓤 H C Λ code.function)
+  meets : (𝓣 : Tables 𝓤 H) → Triple 𝓤 (𝓣 .C #fresh·open) Open → Meets 𝓤 H A hub-open-journal.signature (WpFn 𝓤 H (𝓣 .C) (𝓣 .Λ) code.function) (hub-open-journal.spec 𝓤 H A at-mem run)
+  meets 𝓣 known =
+      code-meets 𝓤 H A W hub-open-journal.ended stayed (hub-open-journal.clauses 𝓤 H A at-mem run)
+      (goes-ref 𝓤 H A W 3 0 tt (plain (λ _. J.the-row)), (goes-dropped 𝓤 H A W 3 (shrSliceOf (1 ∷ []) tt (plain (λ _. u8))) yes (λ κs x f. refl), (goes-gave-slice 𝓤 H A W 3 2 tt (plain (λ _. u8)), tt))) 𝓣 code.function
       (λ κs. (ptr-vals, (slice-vals, (slice-vals, tt)))) (λ κs. (mut-tells (named 0) (κs .0) J.the-row, (shr-slice-tells (named 1) (κs .1 .0) u8, (mut-slice-tells (named 2) (κs .1 .1 .0) u8, tt))))
-      (λ κs qs bounds a g are. via 𝓤 _ (fst∗ 𝓤 _ (hub-open-journal.clauses 𝓤 H A mem run κs a .requires g)) (walk 𝓤 H A W mem run (κs .0) (κs .1 .0) (κs .1 .1 .0) (qs .0) (qs .1 .0) (qs .1 .1 .0) (a .0 .ptr .0) (a .0 .ptr .1) (a .0 .name) (a .0 .now) (a .1 .0) (are .1 .0)
-      (a .1 .1 .0 .ptr .0) (a .1 .1 .0 .ptr .1) (a .1 .1 .0 .name) (a .1 .1 .0 .now) (are .1 .1 .0 .0 .1) C Λ fm known))
-
-hub-open-journal-meets : {M : Type 1} (𝓤 : URA M) (H : Heap 𝓤) (A : Atoms 𝓤) (W : Given 𝓤 H A) (mem : Memory → SProp 𝓤) (run : Routine → Fun 𝓤) (𝓣 : Tables 𝓤 H) → Triple 𝓤 (𝓣 .C #fresh·open) (Open 𝓤 H A W mem run)
-    → Meets 𝓤 H A hub-open-journal.signature (WpFn 𝓤 H (𝓣 .C) (𝓣 .Λ) code.function) (hub-open-journal.spec 𝓤 H A mem run)
-hub-open-journal-meets 𝓤 H A W mem run 𝓣 known =
-    walk-meets 𝓤 H A hub-open-journal.ended stayed W
-    (goes-ref 𝓤 H A W 3 0 tt (plain (λ _. J.the-row)), (goes-dropped 𝓤 H A W 3 (shrSliceOf (1 ∷ []) tt (plain (λ _. u8))) yes (λ κs x f. refl), (goes-gave-slice 𝓤 H A W 3 2 tt (plain (λ _. u8)), tt)))
-    (hub-open-journal.clauses 𝓤 H A mem run) (WpFn 𝓤 H (𝓣 .C) (𝓣 .Λ) code.function) (WpFn-mono 𝓤 H (W .laws) 𝓣 code.function) (hub-open-journal-walks 𝓤 H A W mem run (𝓣 .C) (𝓣 .Λ) (fmOf 𝓤 H (W .laws) 𝓣) known)
+      (λ κs qs bounds a g are. via 𝓤 _ (fst∗ 𝓤 _ (hub-open-journal.clauses 𝓤 H A at-mem run κs a .requires g)) (walk (κs .0) (κs .1 .0) (κs .1 .1 .0) (qs .0) (qs .1 .0) (qs .1 .1 .0) (a .0 .ptr .0) (a .0 .ptr .1) (a .0 .name) (a .0 .now) (a .1 .0) (are .1 .0)
+      (a .1 .1 .0 .ptr .0) (a .1 .1 .0 .ptr .1) (a .1 .1 .0 .name) (a .1 .1 .0 .now) (are .1 .1 .0 .0 .1) 𝓣 known))
 
 pub hub-open-journal-spec : {M : Type 1} → stated.statement M
-unfolding code.routine tablesOf
-hub-open-journal-spec 𝓤 H 𝓜 𝓖 𝓡 =
-    entered 𝓤 H (tripleOf 𝓤 H (𝓖 .A) hub-open-journal.signature (hub-open-journal.spec 𝓤 H (𝓖 .A) (𝓜 .mem) (𝓡 .run)))
-    (tables 𝓤 H 𝓜 𝓡 code.env .C) (tables 𝓤 H 𝓜 𝓡 code.env .Λ) #hub_journal·hub-open-journal code.function (code.unfolded 𝓤 H 𝓜 𝓡)
-    (hub-open-journal-meets 𝓤 H (𝓖 .A) (givenOf 𝓤 H 𝓜 𝓖) (𝓜 .mem) (𝓡 .run) (tablesOf 𝓤 H 𝓜 (tables 𝓤 H 𝓜 𝓡 code.env))
-    (cited 𝓤 H (Open 𝓤 H (𝓖 .A) (givenOf 𝓤 H 𝓜 𝓖) (𝓜 .mem) (𝓡 .run)) 𝓜 𝓡 code.env #fresh·open open-def.routine code.calls-fresh·open (open-thm.met 𝓤 H 𝓜 𝓖 𝓡)))
+unfolding code.routine
+hub-open-journal-spec 𝓤 H 𝓜 𝓖 𝓡 = routine-meets 𝓤 H 𝓜 𝓡 code.env #hub_journal·hub-open-journal code.function _ (code.unfolded 𝓤 H 𝓜 𝓡) code.calls-fresh·open (open-thm.met 𝓤 H 𝓜 𝓖 𝓡) (meets 𝓤 H (𝓖 .A) (givenOf 𝓤 H 𝓜 𝓖) (𝓜 .mem) (𝓡 .run))

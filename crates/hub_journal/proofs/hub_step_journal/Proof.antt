@@ -13,15 +13,15 @@ use base.Logic.{SProp, ent, sep, id⊢}
 use base.Fml.{GName, Lft, Share, ftrue, fat, flft, fobs, fbor}
 use prog.Memory.{Memory}
 use prog.Routine.{Routine}
-use prog.Wp.{Heap, Calls, Loops, WpFn, Tables}
+use prog.Wp.{Heap, WpFn, Tables}
 use ghost.Atoms.{Atoms, sem}
 use contract.Monad.{Fun, fact}
-use contract.Running.{givenOf, tables, tablesOf}
+use contract.Running.{givenOf}
 use types.Kit.{Given, ‵, raw, later, some, _⊛_, ⋆, _$_, _∵_, !, qed, by, move, keep, drop, use1, use3, split, join, pick, rewrite, fsplit, fsplit3, fjoin, fjoin3, feqI, feqL, suffices, frame, await, done}
 use types.Run.{look, look-raw, init, store-raw, forget, stop, hop, fld, from, load, addr, unit-lit, and-then, no-more, of-opd, assigns, land, returns, enter, alloc1, alloc0, params1, pass1, pass0, free1, free0}
 use types.Part.{agg, whole, sub, look-in}
 use types.SemTy.{Body}
-use sound.WpLaws.{FmC, fmOf, WpFn-mono}
+use sound.WpLaws.{fmOf}
 use denote.RattleType.{owns}
 use denote.Laws.{Is, shows}
 use denote.Memory.{mem}
@@ -39,8 +39,7 @@ use denote.Triple.Spec.{Meets, tripleOf}
 use denote.Triple.Statement.{Contract, Triple}
 use denote.Triple.Call.{calls-at}
 use denote.Triple.Clauses.{ensured, lasts}
-use denote.Triple.Table.{entered, cited}
-use denote.Triple.Walked.{says, needs, Stays, stay-ref, stay-dropped, gave-slice, walkOf, goes-ref, goes-dropped, goes-gave-slice, Walks, ends-at, walked, walk-meets}
+use denote.Triple.Walked.{says, needs, Stays, stay-ref, stay-dropped, gave-slice, walkOf, goes-ref, goes-dropped, goes-gave-slice, ends-at}
 use denote.Exit.{yes}
 use Rattle.journal.specs.Journal.{journalAfter}
 use Rattle.journal.specs.Reached.{Reached}
@@ -52,10 +51,9 @@ use Rattle.journal.proofs.Journaled.Laws as J′
 use Rattle.journaling.proofs.host.Told as T
 use Rattle.journaling.proofs.host.Told.Laws as T′
 use Rattle.journaling.proofs.host.tell as tell
-use Rattle.journaling.proofs.host.tell.Symbol as tell-def
 use Rattle.journaling.proofs.host.tell.Symbol.{name as #journaling·tell}
 use Rattle.journaling.proofs.host.tell.Met as tell-thm
-use Rattle.lent.proofs.Machine.{Eight, Twelve, bytes-vals}
+use Rattle.lent.proofs.Machine.{Eight, Twelve, bytes-vals, code-meets, routine-meets}
 use Rattle.hub_journal.proofs.Journal.{journaled-vals}
 use Rattle.hub_journal.proofs.hub_step_journal.Key.{name as #hub_journal·hub-step-journal}
 use Rattle.hub_journal.proofs.hub_step_journal as hub-step-journal
@@ -115,14 +113,14 @@ module _ {M : Type 1} (𝓤 : URA M) (H : Heap 𝓤) (A : Atoms 𝓤) (W : Given
         nothing ! $ move ! (5 ∷ 0 ∷ []) $ fjoin ! $ move ! (3 ∷ 4 ∷ []) $ feqI ! (List Val) (vptr b₂ o₂ ∷ []) (vptr b₂ o₂ ∷ []) refl $ fjoin3 ! $ fjoin ! $ nothing ! $ fjoin ! $
         move ! (1 ∷ 2 ∷ []) $ feqI ! (List Val) (vptr b₀ o₀ ∷ []) (vptr b₀ o₀ ∷ []) refl $ fjoin3 ! $ fjoin ! $ feqI ! (List Val) (vunit ∷ []) (vunit ∷ []) refl $ move ! (1 ∷ 0 ∷ []) $ done !
 
-    module _ (C : Calls 𝓤 H) (Λ : Loops 𝓤 H) (fm : FmC 𝓤 H (W .laws) C) (known : Triple 𝓤 (C #journaling·tell) Tell) where
-      walk : ent 𝓤 (onEntry 𝓤 H A hub-step-journal.signature (κ₀, (κ₁, (κ₂, (κ₃, tt)))) (q₀, (q₁, (q₂, (q₃, tt)))) x at) (WpFn 𝓤 H C Λ code.function (vptr b₀ o₀ ∷ vptr b₁ o₁ ∷ vptr b₂ o₂ ∷ sliceVal (b₃, o₃) (length ys) ∷ []) Post)
+    module _ (𝓣 : Tables 𝓤 H) (known : Triple 𝓤 (𝓣 .C #journaling·tell) Tell) where
+      walk : ent 𝓤 (onEntry 𝓤 H A hub-step-journal.signature (κ₀, (κ₁, (κ₂, (κ₃, tt)))) (q₀, (q₁, (q₂, (q₃, tt)))) x at) (WpFn 𝓤 H (𝓣 .C) (𝓣 .Λ) code.function (vptr b₀ o₀ ∷ vptr b₁ o₁ ∷ vptr b₂ o₂ ∷ sliceVal (b₃, o₃) (length ys) ∷ []) Post)
       walk =
           qed W ((‵ (flft κ₀ q₀) ⊛ ‵ (flft κ₁ q₁) ⊛ ‵ (flft κ₂ q₂) ⊛ ‵ (flft κ₃ q₃) ⊛ ‵ ftrue) ∷ ‵ (owns (MutRef (named 0) κ₀ J.the-row ∷ ShrRef (named 1) κ₁ Eight ∷ MutRef (named 2) κ₂ Twelve ∷ MutSlice (named 3) κ₃ u8 ∷ []) x at) ∷ []) ∵
           split ! $ move ! (1 ∷ []) $ split ! $ move ! (1 ∷ []) $ split ! $ move ! (1 ∷ []) $ split ! $ move ! (5 ∷ []) $ fsplit ! $ fsplit3 ! $ drop ! $
           move ! (2 ∷ []) $ fsplit ! $ fsplit3 ! $ keep ! (2 ∷ 3 ∷ 4 ∷ 5 ∷ 6 ∷ 8 ∷ 9 ∷ 10 ∷ []) $ move ! (1 ∷ []) $ fsplit ! $ fsplit3 ! $ drop ! $ move ! (2 ∷ []) $ fsplit ! $ keep ! (2 ∷ 3 ∷ 8 ∷ 5 ∷ 6 ∷ 10 ∷ 4 ∷ 9 ∷ 0 ∷ 7 ∷ []) $
           -- [the answer's obs, borrow and token; the board's obs, borrow and token; the request's borrow and token; what the journal owns; its token]
-          enter ! C Λ code.function (vptr b₀ o₀ ∷ vptr b₁ o₁ ∷ vptr b₂ o₂ ∷ sliceVal (b₃, o₃) (length ys) ∷ []) _ $
+          enter ! (𝓣 .C) (𝓣 .Λ) code.function (vptr b₀ o₀ ∷ vptr b₁ o₁ ∷ vptr b₂ o₂ ∷ sliceVal (b₃, o₃) (length ys) ∷ []) _ $
           alloc1 ! (λ l₀. alloc1 ! (λ l₁. alloc1 ! (λ l₂. alloc1 ! (λ l₃. alloc1 ! (λ l₄. alloc1 ! (λ l₅. alloc1 ! (λ l₆. alloc1 ! (λ l₇. alloc1 ! (λ l₈. alloc1 ! (λ l₉. alloc0 ! $ params1 ! $
           pass1 ! (init ! 16 refl (tt, tt)) $ pass1 ! (init ! 14 refl (tt, tt)) $ pass1 ! (init ! 12 refl (tt, tt)) $ pass1 ! (init ! 10 refl (tt, (tt, (record { fits = room .0 }, tt)))) $ pass0 ! $
           -- the borrows are opened
@@ -137,7 +135,7 @@ module _ {M : Type 1} (𝓤 : URA M) (H : Heap 𝓤) (A : Atoms 𝓤) (W : Given
           assigns ! (addr ! (from ! (fld ! refl (hop ! (look-in ! 24 (sub ! 0 refl (whole !))) (stop !))))) (from ! (stop !)) (init ! 16 refl (tt, tt)) $
           assigns ! (agg ! (and-then ! (load ! (from ! (stop !)) (look ! 16 refl)) (and-then ! (load ! (from ! (fld ! refl (stop !))) (look-in ! 24 (sub ! 1 refl (whole !)))) (no-more !)))) (from ! (stop !)) (init ! 14 refl (tt, (tt, (record { fits = room .0 }, tt)))) $
           move ! (0 ∷ 34 ∷ 35 ∷ []) $ use3 W (raw (Tell .pre to-tell)) (goes-tell is-p) $
-          calls-at ! fm Tell known to-tell (and-then ! (load ! (from ! (stop !)) (look ! 20 refl)) (and-then ! (load ! (from ! (stop !)) (look ! 18 refl)) (and-then ! (load ! (from ! (stop !)) (look ! 14 refl)) (no-more !)))) (λ v.
+          calls-at ! (fmOf 𝓤 H (W .laws) 𝓣) Tell known to-tell (and-then ! (load ! (from ! (stop !)) (look ! 20 refl)) (and-then ! (load ! (from ! (stop !)) (look ! 18 refl)) (and-then ! (load ! (from ! (stop !)) (look ! 14 refl)) (no-more !)))) (λ v.
           use1 W (later (some (λ (r : Told). ((‵ (flft κ₃ q₃) ⊛ ‵ ftrue) ⊛ ‵ (T.the-row .own r (v ∷ []))) ⊛ raw (ensured 𝓤 H A tell.ended (tell.clauses 𝓤 H A at-mem run) (κ₃, tt) (h, (p, (j, tt))) tt r)))) (id⊢ 𝓤 _) $ await ! tt $ pick ! (λ r.
           split ! $ move ! (1 ∷ []) $ use1 W (some (λ (zs : Unit {0} × (Unit {0} × (List ℕ × Unit {0}))). ‵ (lasts tell.ended (κ₃, tt) (h, (p, (j, tt))) zs) ⊛ raw (fact 𝓤 (Did r (zs .1 .1 .0))))) (id⊢ 𝓤 _) $ pick ! (λ zs.
           split ! $ move ! (1 ∷ []) $ heard ! (Did r (zs .1 .1 .0)) (λ e. fsplit ! $ drop ! $ fsplit ! $ drop ! $ fsplit ! $ fsplit ! $ move ! (1 ∷ []) $ feqL ! (λ l.
@@ -158,25 +156,15 @@ module _ {M : Type 1} (𝓤 : URA M) (H : Heap 𝓤) (A : Atoms 𝓤) (W : Given
           move ! (30 ∷ 31 ∷ []) $ free1 ! $ move ! (28 ∷ 29 ∷ []) $ free1 ! $ move ! (26 ∷ 27 ∷ []) $ free1 ! $ move ! (24 ∷ 25 ∷ []) $ free1 ! $ move ! (22 ∷ 23 ∷ []) $ free1 ! $ move ! (20 ∷ 21 ∷ []) $ free1 ! $ move ! (18 ∷ 19 ∷ []) $ free1 ! $ move ! (16 ∷ 17 ∷ []) $ free1 ! $ move ! (14 ∷ 15 ∷ []) $ free1 ! $ move ! (12 ∷ 13 ∷ []) $ free1 ! $ free0 ! $
           keep ! (0 ∷ 1 ∷ 2 ∷ 3 ∷ 4 ∷ 5 ∷ 6 ∷ 7 ∷ 9 ∷ []) $ by ! (exits r (zs .1 .1 .0) e l))))))))))))))))))))))
 
-module _ {M : Type 1} (𝓤 : URA M) (H : Heap 𝓤) (A : Atoms 𝓤) (W : Given 𝓤 H A) (mem : Memory → SProp 𝓤) (run : Routine → Fun 𝓤) where
-  hub-step-journal-walks : (C : Calls 𝓤 H) (Λ : Loops 𝓤 H) → FmC 𝓤 H (W .laws) C → Triple 𝓤 (C #journaling·tell) (Tell 𝓤 H A W mem run) → Walks 𝓤 H A hub-step-journal.ended stayed (WpFn 𝓤 H C Λ code.function) (hub-step-journal.clauses 𝓤 H A mem run)
-  hub-step-journal-walks C Λ fm known = walked 𝓤 H A hub-step-journal.ended stayed (hub-step-journal.clauses 𝓤 H A mem run) (WpFn 𝓤 H C Λ code.function)
+  meets : (𝓣 : Tables 𝓤 H) → Triple 𝓤 (𝓣 .C #journaling·tell) Tell → Meets 𝓤 H A hub-step-journal.signature (WpFn 𝓤 H (𝓣 .C) (𝓣 .Λ) code.function) (hub-step-journal.spec 𝓤 H A at-mem run)
+  meets 𝓣 known =
+      code-meets 𝓤 H A W hub-step-journal.ended stayed (hub-step-journal.clauses 𝓤 H A at-mem run)
+      (goes-ref 𝓤 H A W 4 0 tt (plain (λ _. J.the-row)), (goes-dropped 𝓤 H A W 4 (shrRefTo (1 ∷ []) tt (plain (λ _. Eight))) yes (λ κs x f. refl), (goes-ref 𝓤 H A W 4 2 tt (plain (λ _. Twelve)), (goes-gave-slice 𝓤 H A W 4 3 tt (plain (λ _. u8)), tt)))) 𝓣 code.function
       (λ κs. (ptr-vals, (ptr-vals, (ptr-vals, (slice-vals, tt))))) (λ κs. (mut-tells (named 0) (κs .0) J.the-row, (shr-tells (named 1) (κs .1 .0) Eight, (mut-tells (named 2) (κs .1 .1 .0) Twelve, (mut-slice-tells (named 3) (κs .1 .1 .1 .0) u8, tt)))))
-      (λ κs qs bounds a g are. needs 𝓤 (Reached (a .0 .now)) _ (λ ok. walk 𝓤 H A W mem run (κs .0) (κs .1 .0) (κs .1 .1 .0) (κs .1 .1 .1 .0) (qs .0) (qs .1 .0) (qs .1 .1 .0) (qs .1 .1 .1 .0) (a .0 .ptr .0) (a .0 .ptr .1) (a .0 .name) (a .0 .now)
+      (λ κs qs bounds a g are. needs 𝓤 (Reached (a .0 .now)) _ (λ ok. walk (κs .0) (κs .1 .0) (κs .1 .1 .0) (κs .1 .1 .1 .0) (qs .0) (qs .1 .0) (qs .1 .1 .0) (qs .1 .1 .1 .0) (a .0 .ptr .0) (a .0 .ptr .1) (a .0 .name) (a .0 .now)
       (a .1 .0 .ptr .0) (a .1 .0 .ptr .1) (a .1 .0 .name) (a .1 .0 .now) (a .1 .1 .0 .ptr .0) (a .1 .1 .0 .ptr .1) (a .1 .1 .0 .name) (a .1 .1 .0 .now)
-      (a .1 .1 .1 .0 .ptr .0) (a .1 .1 .1 .0 .ptr .1) (a .1 .1 .1 .0 .name) (a .1 .1 .1 .0 .now) (are .1 .1 .1 .0 .0 .1) ok C Λ fm known))
-
-hub-step-journal-meets : {M : Type 1} (𝓤 : URA M) (H : Heap 𝓤) (A : Atoms 𝓤) (W : Given 𝓤 H A) (mem : Memory → SProp 𝓤) (run : Routine → Fun 𝓤) (𝓣 : Tables 𝓤 H) → Triple 𝓤 (𝓣 .C #journaling·tell) (Tell 𝓤 H A W mem run)
-    → Meets 𝓤 H A hub-step-journal.signature (WpFn 𝓤 H (𝓣 .C) (𝓣 .Λ) code.function) (hub-step-journal.spec 𝓤 H A mem run)
-hub-step-journal-meets 𝓤 H A W mem run 𝓣 known =
-    walk-meets 𝓤 H A hub-step-journal.ended stayed W
-    (goes-ref 𝓤 H A W 4 0 tt (plain (λ _. J.the-row)), (goes-dropped 𝓤 H A W 4 (shrRefTo (1 ∷ []) tt (plain (λ _. Eight))) yes (λ κs x f. refl), (goes-ref 𝓤 H A W 4 2 tt (plain (λ _. Twelve)), (goes-gave-slice 𝓤 H A W 4 3 tt (plain (λ _. u8)), tt))))
-    (hub-step-journal.clauses 𝓤 H A mem run) (WpFn 𝓤 H (𝓣 .C) (𝓣 .Λ) code.function) (WpFn-mono 𝓤 H (W .laws) 𝓣 code.function) (hub-step-journal-walks 𝓤 H A W mem run (𝓣 .C) (𝓣 .Λ) (fmOf 𝓤 H (W .laws) 𝓣) known)
+      (a .1 .1 .1 .0 .ptr .0) (a .1 .1 .1 .0 .ptr .1) (a .1 .1 .1 .0 .name) (a .1 .1 .1 .0 .now) (are .1 .1 .1 .0 .0 .1) ok 𝓣 known))
 
 pub hub-step-journal-spec : {M : Type 1} → stated.statement M
-unfolding code.routine tablesOf
-hub-step-journal-spec 𝓤 H 𝓜 𝓖 𝓡 =
-    entered 𝓤 H (tripleOf 𝓤 H (𝓖 .A) hub-step-journal.signature (hub-step-journal.spec 𝓤 H (𝓖 .A) (𝓜 .mem) (𝓡 .run)))
-    (tables 𝓤 H 𝓜 𝓡 code.env .C) (tables 𝓤 H 𝓜 𝓡 code.env .Λ) #hub_journal·hub-step-journal code.function (code.unfolded 𝓤 H 𝓜 𝓡)
-    (hub-step-journal-meets 𝓤 H (𝓖 .A) (givenOf 𝓤 H 𝓜 𝓖) (𝓜 .mem) (𝓡 .run) (tablesOf 𝓤 H 𝓜 (tables 𝓤 H 𝓜 𝓡 code.env))
-    (cited 𝓤 H (Tell 𝓤 H (𝓖 .A) (givenOf 𝓤 H 𝓜 𝓖) (𝓜 .mem) (𝓡 .run)) 𝓜 𝓡 code.env #journaling·tell tell-def.routine code.calls-journaling·host·tell (tell-thm.met 𝓤 H 𝓜 𝓖 𝓡)))
+unfolding code.routine
+hub-step-journal-spec 𝓤 H 𝓜 𝓖 𝓡 = routine-meets 𝓤 H 𝓜 𝓡 code.env #hub_journal·hub-step-journal code.function _ (code.unfolded 𝓤 H 𝓜 𝓡) code.calls-journaling·host·tell (tell-thm.met 𝓤 H 𝓜 𝓖 𝓡) (meets 𝓤 H (𝓖 .A) (givenOf 𝓤 H 𝓜 𝓖) (𝓜 .mem) (𝓡 .run))

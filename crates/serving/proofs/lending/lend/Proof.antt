@@ -12,16 +12,16 @@ use base.Logic.{SProp, ent, sep, ex, emp, guard, via, id⊢}
 use base.Fml.{GName, ftrue, fsep, fat, flft, flent}
 use prog.Memory.{Memory}
 use prog.Routine.{Routine}
-use prog.Wp.{Heap, Calls, Loops, WpFn, Tables}
+use prog.Wp.{Heap, WpFn, Tables}
 use ghost.Atoms.{Atoms, sem}
 use contract.Monad.{Fun, fact}
-use contract.Running.{givenOf, tables, tablesOf}
+use contract.Running.{givenOf}
 use types.Kit.{Given, ‵, raw, given, later, some, _⊛_, _$_, _∵_, !, qed, by, move, keep, drop, use1, use2, use3, split, join, pick, learn, check, rewrite, fsplit, fjoin, fpick, fpack, suffices, await, done}
 use types.Run.{look, init, forget, stop, from, load, addr, and-then, no-more, of-opd, assigns, land, returns, enter, alloc1, alloc0, params1, pass1, pass0, free1, free0}
 use types.Part.{agg}
 use types.SemTy.{Body}
 use types.Tokens.{lft-new, lft-end}
-use sound.WpLaws.{FmC, fmOf, WpFn-mono}
+use sound.WpLaws.{fmOf}
 use denote.RattleType.{owns}
 use denote.Laws.{Is, shows}
 use denote.Memory.{mem, cellAt, partOf}
@@ -40,8 +40,7 @@ use denote.Triple.Spec.{Meets, tripleOf}
 use denote.Triple.Statement.{Contract, Triple}
 use denote.Triple.Call.{calls-at}
 use denote.Triple.Clauses.{ensured, lasts}
-use denote.Triple.Table.{entered, cited}
-use denote.Triple.Walked.{says, needs, Stays, stay-dropped, walkOf, goes-dropped, Walks, ends-at, walked, walk-meets}
+use denote.Triple.Walked.{says, needs, Stays, stay-dropped, walkOf, goes-dropped, ends-at}
 use denote.Exit.{yes}
 use Rattle.board.specs.Rules.{step}
 use Rattle.board.specs.Reached.{Reached}
@@ -54,10 +53,9 @@ use Rattle.wire.proofs.Answer as N
 use Rattle.wire.proofs.Answer.Laws as N′
 use Rattle.board.proofs.Stepped as S
 use Rattle.board.proofs.Stepped.Laws as S′
-use Rattle.lent.proofs.Machine.{Eight, bytes-vals}
+use Rattle.lent.proofs.Machine.{Eight, bytes-vals, code-meets, routine-meets}
 use Rattle.serving.proofs.Machine.{board-vals, answer-vals}
 use Rattle.serving.proofs.lending.step_in as step-in
-use Rattle.serving.proofs.lending.step_in.Symbol as step-in-def
 use Rattle.serving.proofs.lending.step_in.Symbol.{name as #serving·step-in}
 use Rattle.serving.proofs.lending.step_in.Met as step-in-thm
 use Rattle.serving.proofs.lending.lend.Key.{name as #serving·lend}
@@ -122,10 +120,10 @@ module _ {M : Type 1} (𝓤 : URA M) (H : Heap 𝓤) (A : Atoms 𝓤) (W : Given
         qed W [] ∵ suffices ! _ (ends-at 𝓤 H A lend.ended stayed (lend.clauses 𝓤 H A at-mem run) W ((tt, tt, tt, x, at), tt) (LL.val S.the-type S′.the-laws (both h′ r)) (both h′ r) (tt, (tt, tt)) (tt, (tt, tt))) $ says ! (λ i. both (e .1 i) (e .0 i)) $
         owned ! S.the-row (Is S.the-row) (LL.makes S.the-type S′.the-plain 𝓤 H A) (both h′ r) _ (made h′ r is-h′ is-r) $ nothing ! $ nothing ! $ nothing ! $ move ! (1 ∷ 2 ∷ []) $ fjoin ! $ move ! (1 ∷ 0 ∷ []) $ fjoin ! $ nothing ! $ done !
 
-    module _ (C : Calls 𝓤 H) (Λ : Loops 𝓤 H) (fm : FmC 𝓤 H (W .laws) C) (known : Triple 𝓤 (C #serving·step-in) StepIn) where
-      walk : ent 𝓤 (onEntry 𝓤 H A lend.signature tt tt x at) (WpFn 𝓤 H C Λ code.function (only (board-vals h) ∷ only (bytes-vals p) ∷ []) Post)
+    module _ (𝓣 : Tables 𝓤 H) (known : Triple 𝓤 (𝓣 .C #serving·step-in) StepIn) where
+      walk : ent 𝓤 (onEntry 𝓤 H A lend.signature tt tt x at) (WpFn 𝓤 H (𝓣 .C) (𝓣 .Λ) code.function (only (board-vals h) ∷ only (bytes-vals p) ∷ []) Post)
       walk =
-          qed W (‵ ftrue ∷ ‵ (owns (B.the-row ∷ Eight ∷ []) x at) ∷ []) ∵ keep ! [] $ enter ! C Λ code.function (only (board-vals h) ∷ only (bytes-vals p) ∷ []) _ $
+          qed W (‵ ftrue ∷ ‵ (owns (B.the-row ∷ Eight ∷ []) x at) ∷ []) ∵ keep ! [] $ enter ! (𝓣 .C) (𝓣 .Λ) code.function (only (board-vals h) ∷ only (bytes-vals p) ∷ []) _ $
           alloc1 ! (λ l₀. alloc1 ! (λ l₁. alloc1 ! (λ l₂. alloc1 ! (λ l₃. alloc1 ! (λ l₄. alloc1 ! (λ l₅. alloc1 ! (λ l₆. alloc0 ! $ params1 ! $
           pass1 ! (init ! 10 refl (LL.lawful B.the-type B′.the-laws 𝓤 H A W .typed h _ is-h .0)) $ pass1 ! (init ! 8 refl (array-lawful 𝓤 H A W u8 (uint-lawful 𝓤 H A W w8) 8 .typed p _ is-p .0)) $ pass0 ! $
           -- [_6 at 0; …; _5 at 2; …; _4 at 4; …; _3 at 6; …; _2 at 8; …; _1 at 10; …; room for _0 at 12; …]
@@ -135,7 +133,7 @@ module _ {M : Type 1} (𝓤 : URA M) (H : Heap 𝓤) (A : Atoms 𝓤) (W : Given
           lft-new ! tt (λ ν. move ! (7 ∷ []) $ use1 W (later (some (λ (γ : GName). ‵ (MutRef (named 0) (ν ∷ []) B.the-row .own (lent l₃ γ) (vptr l₃ 0 ∷ [])) ⊛ ‵ (flent (ν ∷ []) (Body (mem B.the-row) l₃ 0 γ))))) (out ν l₃ h is-h) $ await ! tt $ pick ! (λ γ. split ! $
           move ! (2 ∷ 0 ∷ []) $ use2 W (raw (StepIn .pre (to-step-in ν l₃ γ))) (goes-in ν l₃ γ) $
           -- [what `step_in` asks; the lender's part; _6 at 2; …; _5 at 4; …; _4 at 6; …; what frees _3; _2 at 9; …; _1 at 11; …; room for _0 at 13; …]
-          calls-at ! fm StepIn known (to-step-in ν l₃ γ) (and-then ! (load ! (from ! (stop !)) (look ! 4 refl)) (and-then ! (load ! (from ! (stop !)) (look ! 9 refl)) (no-more !))) (λ v.
+          calls-at ! (fmOf 𝓤 H (W .laws) 𝓣) StepIn known (to-step-in ν l₃ γ) (and-then ! (load ! (from ! (stop !)) (look ! 4 refl)) (and-then ! (load ! (from ! (stop !)) (look ! 9 refl)) (no-more !))) (λ v.
           use1 W (later (some (λ (r : Answer). ((‵ (flft (ν ∷ []) fullShare) ⊛ ‵ ftrue) ⊛ ‵ (N.the-row .own r (v ∷ []))) ⊛ raw (ensured 𝓤 H A step-in.ended (step-in.clauses 𝓤 H A at-mem run) (ν ∷ [], tt) (lent l₃ γ, (p, tt)) tt r)))) (id⊢ 𝓤 _) $ await ! tt $ pick ! (λ r.
           split ! $ move ! (1 ∷ []) $ use1 W (some (λ (zs : Board × (Unit {0} × Unit {0})). ‵ (lasts step-in.ended (ν ∷ [], tt) (lent l₃ γ, (p, tt)) zs) ⊛ raw (fact 𝓤 ((r ≡ step h p .answer) × (zs .0 ≡ step h p .board))))) (id⊢ 𝓤 _) $ pick ! (λ zs.
           split ! $ move ! (1 ∷ []) $ heard ! ((r ≡ step h p .answer) × (zs .0 ≡ step h p .board)) (λ e. fsplit ! $ move ! (2 ∷ []) $ split ! $ move ! (1 ∷ []) $ peeks ! N.the-row (Is N.the-row) (shows 𝓤 H A N.the-row) r (v ∷ []) (λ is.
@@ -152,22 +150,13 @@ module _ {M : Type 1} (𝓤 : URA M) (H : Heap 𝓤) (A : Atoms 𝓤) (W : Given
           move ! (12 ∷ 13 ∷ []) $ free1 ! $ move ! (10 ∷ 11 ∷ []) $ free1 ! $ move ! (8 ∷ 9 ∷ []) $ free1 ! $ move ! (6 ∷ 7 ∷ []) $ free1 ! $ move ! (4 ∷ 5 ∷ []) $ free1 ! $ move ! (2 ∷ 3 ∷ []) $ free1 ! $ free1 ! $ free0 ! $
           keep ! [] $ by ! (exits (zs .0) r e is-h′ (EL.owes N.the-type N′.the-laws r (EL.owed N.the-type N′.the-laws r _ is))))))))))))))))))
 
-module _ {M : Type 1} (𝓤 : URA M) (H : Heap 𝓤) (A : Atoms 𝓤) (W : Given 𝓤 H A) (mem : Memory → SProp 𝓤) (run : Routine → Fun 𝓤) where
-  lend-walks : (C : Calls 𝓤 H) (Λ : Loops 𝓤 H) → FmC 𝓤 H (W .laws) C → Triple 𝓤 (C #serving·step-in) (StepIn 𝓤 H A W mem run) → Walks 𝓤 H A lend.ended stayed (WpFn 𝓤 H C Λ code.function) (lend.clauses 𝓤 H A mem run)
-  lend-walks C Λ fm known = walked 𝓤 H A lend.ended stayed (lend.clauses 𝓤 H A mem run) (WpFn 𝓤 H C Λ code.function)
+  meets : (𝓣 : Tables 𝓤 H) → Triple 𝓤 (𝓣 .C #serving·step-in) StepIn → Meets 𝓤 H A lend.signature (WpFn 𝓤 H (𝓣 .C) (𝓣 .Λ) code.function) (lend.spec 𝓤 H A at-mem run)
+  meets 𝓣 known =
+      code-meets 𝓤 H A W lend.ended stayed (lend.clauses 𝓤 H A at-mem run)
+      (goes-dropped 𝓤 H A W 0 (plain (λ _. B.the-row)) yes (λ κs x f. refl), (goes-dropped 𝓤 H A W 0 (plain (λ _. Eight)) yes (λ κs x f. refl), tt)) 𝓣 code.function
       (λ κs. (board-vals, (bytes-vals, tt))) (λ κs. (LL.tells B.the-type B′.the-laws, (array-tells u8 (uint-vals w8) (uint-tells w8) 8, tt)))
-      (λ κs qs bounds a g are. needs 𝓤 (Reached (a .0)) _ (λ ok. walk 𝓤 H A W mem run (a .0) (a .1 .0) (are .0) (are .1 .0) ok C Λ fm known))
-
-lend-meets : {M : Type 1} (𝓤 : URA M) (H : Heap 𝓤) (A : Atoms 𝓤) (W : Given 𝓤 H A) (mem : Memory → SProp 𝓤) (run : Routine → Fun 𝓤) (𝓣 : Tables 𝓤 H) → Triple 𝓤 (𝓣 .C #serving·step-in) (StepIn 𝓤 H A W mem run)
-    → Meets 𝓤 H A lend.signature (WpFn 𝓤 H (𝓣 .C) (𝓣 .Λ) code.function) (lend.spec 𝓤 H A mem run)
-lend-meets 𝓤 H A W mem run 𝓣 known =
-    walk-meets 𝓤 H A lend.ended stayed W (goes-dropped 𝓤 H A W 0 (plain (λ _. B.the-row)) yes (λ κs x f. refl), (goes-dropped 𝓤 H A W 0 (plain (λ _. Eight)) yes (λ κs x f. refl), tt)) (lend.clauses 𝓤 H A mem run)
-    (WpFn 𝓤 H (𝓣 .C) (𝓣 .Λ) code.function) (WpFn-mono 𝓤 H (W .laws) 𝓣 code.function) (lend-walks 𝓤 H A W mem run (𝓣 .C) (𝓣 .Λ) (fmOf 𝓤 H (W .laws) 𝓣) known)
+      (λ κs qs bounds a g are. needs 𝓤 (Reached (a .0)) _ (λ ok. walk (a .0) (a .1 .0) (are .0) (are .1 .0) ok 𝓣 known))
 
 pub lend-spec : {M : Type 1} → stated.statement M
-unfolding code.routine tablesOf
-lend-spec 𝓤 H 𝓜 𝓖 𝓡 =
-    entered 𝓤 H (tripleOf 𝓤 H (𝓖 .A) lend.signature (lend.spec 𝓤 H (𝓖 .A) (𝓜 .mem) (𝓡 .run)))
-    (tables 𝓤 H 𝓜 𝓡 code.env .C) (tables 𝓤 H 𝓜 𝓡 code.env .Λ) #serving·lend code.function (code.unfolded 𝓤 H 𝓜 𝓡)
-    (lend-meets 𝓤 H (𝓖 .A) (givenOf 𝓤 H 𝓜 𝓖) (𝓜 .mem) (𝓡 .run) (tablesOf 𝓤 H 𝓜 (tables 𝓤 H 𝓜 𝓡 code.env))
-    (cited 𝓤 H (StepIn 𝓤 H (𝓖 .A) (givenOf 𝓤 H 𝓜 𝓖) (𝓜 .mem) (𝓡 .run)) 𝓜 𝓡 code.env #serving·step-in step-in-def.routine code.calls-serving·lending·step-in (step-in-thm.met 𝓤 H 𝓜 𝓖 𝓡)))
+unfolding code.routine
+lend-spec 𝓤 H 𝓜 𝓖 𝓡 = routine-meets 𝓤 H 𝓜 𝓡 code.env #serving·lend code.function _ (code.unfolded 𝓤 H 𝓜 𝓡) code.calls-serving·lending·step-in (step-in-thm.met 𝓤 H 𝓜 𝓖 𝓡) (meets 𝓤 H (𝓖 .A) (givenOf 𝓤 H 𝓜 𝓖) (𝓜 .mem) (𝓡 .run))

@@ -3,7 +3,7 @@ use mathlib.Core.Path.{ap}
 use mathlib.Core.List.{[], _∷_}
 use mir.Syntax.{w8}
 use mir.Val.{Val}
-use contract.Running.{givenOf, tables, tablesOf}
+use contract.Running.{givenOf}
 use denote.Plain.{uint-vals, uint-tells, uint-makes, uint-lawful}
 use denote.Array.{array-tells, array-makes, array-lawful}
 use denote.Builtin.{u8}
@@ -13,11 +13,10 @@ use denote.Steps.{only}
 use denote.Struct.Laws as LL
 use denote.Enum.Laws as EL
 use denote.Triple.Spec.{tripleOf}
-use denote.Triple.Table.{entered, cited}
 use Rattle.board.specs.Rules.{step}
 use Rattle.board.specs.Reached.{Reached}
 use Rattle.board.specs.declared.Stepped.{Stepped}
-use Rattle.lent.proofs.Machine.{Eight, bytes-vals}
+use Rattle.lent.proofs.Machine.{Eight, bytes-vals, routine-meets}
 use Rattle.serving.proofs.Machine.{answer-vals}
 use Rattle.serving.proofs.Thin.{Plainly, plainly, Lawed, Apart, Wrapping, Wrapped, wraps}
 use Rattle.board.proofs.Board as B
@@ -26,7 +25,6 @@ use Rattle.wire.proofs.Answer as N
 use Rattle.wire.proofs.Answer.Laws as N′
 use Rattle.board.proofs.Stepped as S
 use Rattle.board.proofs.Stepped.Laws as S′
-use Rattle.stepping.proofs.step.Symbol as step-def
 use Rattle.stepping.proofs.step.Symbol.{name as #stepping·step}
 use Rattle.stepping.proofs.step.Met as step-thm
 use Rattle.serving.proofs.lending.step_in.Key.{name as #serving·step-in}
@@ -66,9 +64,7 @@ abbrev it : Wrapping
 it = record { B = BoardT; P = ReqT; N = AnswerT; S = SteppedT; name = S.the-type .name; b = board-laws; p = req-laws; n = answer-laws; s = stepped-laws; board = λ r. r .board; answer = λ r. r .answer; apart = apart; Pre = Reached; spec = step }
 
 pub step-in-spec : {M : Type 1} → stated.statement M
-unfolding code.routine tablesOf
+unfolding code.routine
 step-in-spec 𝓤 H 𝓜 𝓖 𝓡 =
-    entered 𝓤 H (tripleOf 𝓤 H (𝓖 .A) step-in.signature (step-in.spec 𝓤 H (𝓖 .A) (𝓜 .mem) (𝓡 .run)))
-    (tables 𝓤 H 𝓜 𝓡 code.env .C) (tables 𝓤 H 𝓜 𝓡 code.env .Λ) #serving·step-in code.function (code.unfolded 𝓤 H 𝓜 𝓡)
-    (wraps it 𝓤 H (𝓖 .A) (givenOf 𝓤 H 𝓜 𝓖) (tablesOf 𝓤 H 𝓜 (tables 𝓤 H 𝓜 𝓡 code.env)) #stepping·step
-    (cited 𝓤 H (Wrapped it 𝓤 H (𝓖 .A)) 𝓜 𝓡 code.env #stepping·step step-def.routine code.calls-stepping·step (step-thm.met 𝓤 H 𝓜 𝓖 𝓡)))
+    routine-meets 𝓤 H 𝓜 𝓡 code.env #serving·step-in code.function (tripleOf 𝓤 H (𝓖 .A) step-in.signature (step-in.spec 𝓤 H (𝓖 .A) (𝓜 .mem) (𝓡 .run))) {d = Wrapped it 𝓤 H (𝓖 .A)}
+    (code.unfolded 𝓤 H 𝓜 𝓡) code.calls-stepping·step (step-thm.met 𝓤 H 𝓜 𝓖 𝓡) (wraps it 𝓤 H (𝓖 .A) (givenOf 𝓤 H 𝓜 𝓖) #stepping·step)
