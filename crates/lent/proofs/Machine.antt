@@ -1,4 +1,5 @@
--- What the walks of lent boards share: the types of a request's and of an answer's bytes, and their machine values; and how a walk of a function's code gives the function's theorem.
+-- What the walks of lent boards share: the types of a request's and of an answer's bytes, and their machine values; and how a walk of a
+-- function's code gives the function's theorem.
 use mathlib.Core.Path.{_≡_}
 use mathlib.Core.List.{List}
 use Prim.Native.Nat.{ℕ}
