@@ -67,10 +67,11 @@
  *         show(bytes);
  *     }
  *
- * Link with libhub.a, and for the calls with a journal and hub_restart with
- * libhub_journal.a, beside it or alone (x86-64 Linux). The library allocates
- * nothing, keeps nothing between calls, does no input or output and never
- * exits. It takes about 34 KB of stack, with a journal about 50 KB.
+ * Link with libchaffdancer (pkg-config --libs chaffdancer), which has all calls.
+ * Its parts may be linked by themselves: libhub.a, and for the calls with a
+ * journal and hub_restart libhub_journal.a (x86-64 Linux). The library
+ * allocates nothing, keeps nothing between calls, does no input or output and
+ * never exits. It takes about 34 KB of stack, with a journal about 50 KB.
  *
  * RULES FOR ALL CALLS
  *   Buffers   The buffers lent to one call (a board is one too) must not
@@ -163,6 +164,9 @@
 
 #include <stddef.h>
 #include <stdint.h>
+
+/* The version of this header; chaffdancer_version() has that of the library. */
+#define CHAFFDANCER_VERSION "1.0.0"
 
 /* How many there are. */
 #define CHAFFDANCER_DESKS 16
@@ -405,6 +409,20 @@ void hub_step_journal(chaffdancer_journaled *board,
 CHAFFDANCER_RESULT_MATTERS
 int64_t hub_restart(uint8_t *table, size_t table_length, const uint8_t *journal,
                     size_t journal_length);
+
+/*
+ * In libchaffdancer, and not in libhub.a: the version of the library, to be
+ * compared with CHAFFDANCER_VERSION; and texts for the numbers in an answer, in
+ * English, never null, "unknown" for a number that means nothing.
+ *   chaffdancer_code_text     of a code, 0 to 7
+ *   chaffdancer_aborted_text  of the reason of an aborted answer, 1 to 3
+ *   chaffdancer_refused_text  of a refusal, 1 to 15: the reason of a refused
+ *                             answer, or what a call returned, made positive
+ */
+const char *chaffdancer_version(void);
+const char *chaffdancer_code_text(unsigned code);
+const char *chaffdancer_aborted_text(unsigned reason);
+const char *chaffdancer_refused_text(unsigned refusal);
 
 #ifdef __cplusplus
 }
