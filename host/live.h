@@ -1,14 +1,10 @@
-/* A script served line by line, as it is read, with a journal file. */
+/* A room served line by line, as the lines come, with a store or without. */
 #ifndef CHAFFDANCER_HOST_LIVE_H
 #define CHAFFDANCER_HOST_LIVE_H
 
-#include <stdio.h>
+#include "source.h"
 
-/* Exit statuses beside 0, served to the end. */
-#define STATUS_REFUSED 1     /* the script's table, or the file's, is wrong */
-#define STATUS_STOPPED 2     /* a wrong line, or a file that cannot be read or made */
-#define STATUS_NOT_WRITTEN 3 /* a commit could not be written; it was not shown */
-
-int serve_live(FILE *file, const char *name, const char *journal_path);
+/* The path of the store may be null. Gives the exit status. */
+int serve_live(struct source *source, const char *store_path);
 
 #endif
