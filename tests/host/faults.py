@@ -1,112 +1,196 @@
-"""The host killed at, or failed by, each call of its disk in turn: faults.py HOST SHIM FOLDER."""
+"""The host killed at each of its system calls, and failed by each call of its disk: faults.py HOST KILLER SHIM FOLDER."""
 
 import os
+import subprocess
 import sys
 
-from journal_file import *
+from store_file import *
 
-HOST, SHIM, FOLDER = sys.argv[1:]
-PATH = os.path.join(FOLDER, "faults.journal")
+HOST, KILLER, SHIM, FOLDER = sys.argv[1:]
+PATH = os.path.join(FOLDER, "faults.store")
 
-# What the file holds before, and what the script commits.
+# What the store holds before, and what the script commits.
 BEFORE = [[(0, 7)], [(1, 1), (2, 31)]]
-COMMITS = [[(0, 115)], [(5, 1), (6, 2), (7, 3)], [], [(0, 116), (63, 9)]]
-
-# A restart replaces the file: a write, two syncs and a rename; each commit is a write and a sync.
-TURNS = {"pwrite": 1 + len(COMMITS), "fsync": 2, "rename": 1, "fdatasync": len(COMMITS)}
-KILLS = {"pwrite": ["kill_before", "half", "kill_after"]}
+COMMITS = [[(0, 115)], [(5, 1), (6, 2), (7, 3)], [], [(item, 50 + item) for item in range(3, 64)], [(0, 116)]]
+SCRIPT = TABLE_LINES + "".join(transaction(4, commit) for commit in COMMITS) + "begin 5\nwrite 5 9 9\n"
+CLOSES = "".join(transaction(3, commit) for commit in BEFORE)
 
 
-def old_file():
-    records = []
-    for number_of, commit in enumerate(BEFORE, 1):
-        for item, value in commit:
-            records.append(bytes([1, item, number_of, 0]) + value.to_bytes(4, "little"))
-        records.append(bytes([2, 0, number_of, 0]) + len(commit).to_bytes(4, "little"))
-    return table_of(OPENING) + b"".join(records)
-
-
-def served(call, turn, how):
-    """Serves the script with one fault: status, what was told, standard error, commits shown."""
-    save(PATH, old_file())
-    script = "".join(transaction(4, commit) for commit in COMMITS)
-    environment = {"LD_PRELOAD": SHIM, "CHAFFDANCER_FAULT": f"{call}:{turn}:{how}"}
-    status, told, errors = run(HOST, PATH, script, environment)
-    return status, told, errors, told.count(" ends: committed as number ")
-
-
-def kept(shown, unshown_most):
-    """What was shown is in the file, and at most so many commits more."""
-    values, commits = load(PATH)
-    if values == OPENING:
-        assert commits == BEFORE and shown == 0, "the old file is no longer whole"
+def old_store(kind):
+    """Nothing; a store that was closed; one whose host was killed; one with a torn commit at its end."""
+    remove(PATH)
+    if kind == "none":
         return
-    assert values == after(OPENING, BEFORE), "the restarted table is another one"
+    serve(HOST, PATH, TABLE_LINES + CLOSES)
+    store = Store(PATH)
+    if kind == "closed":
+        return
+    data = bytearray(store.data)
+    data[store.end - SLOT : store.end] = bytes(SLOT)  # the note that it was closed
+    if kind == "torn":
+        data[(store.end // 512 + 1) * 512] = 1  # a sector came, and the one before it did not
+    with open(PATH, "wb") as file:
+        file.write(data)
+
+
+def numbers_told(told):
+    return [int(line.split()[6].rstrip(",;")) for line in told.splitlines() if " ends: committed as number " in line]
+
+
+def kept(told, kind, unshown_most=1):
+    """What was told is in the store, at most so many commits more, and nothing that was there is lost."""
+    shown = len(numbers_told(told))
+    if not os.path.exists(PATH):
+        assert shown == 0 and kind == "none", "the store is gone"
+        return
+    store = Store(PATH)
+    commits = store.commits()
+    if kind != "none":
+        assert commits[:2] == BEFORE, "what was there is lost"
+        commits = commits[2:]
     assert commits == COMMITS[: len(commits)], f"commits were invented: {commits}"
-    assert shown <= len(commits) <= shown + unshown_most, f"{shown} shown, {len(commits)} in the file"
+    assert shown <= len(commits) <= shown + unshown_most, f"{shown} told, {len(commits)} in the store"
 
 
-def goes_on(shown):
-    """The next start restores what the file holds and commits again."""
-    before, commits = load(PATH)
-    status, told, errors = run(HOST, PATH, transaction(9, [(50, 50)]))
+def goes_on():
+    """The next start restores what the store holds and commits again."""
+    before = Store(PATH).values() if os.path.exists(PATH) else OPENING
+    segments = len(Store(PATH).segments) if os.path.exists(PATH) else 0
+    status, told, errors = serve(HOST, PATH, ("" if segments else TABLE_LINES) + transaction(9, [(50, 50)]))
     assert (status, errors) == (0, ""), errors
-    assert told.startswith(told_restart(before, commits)), told
-    assert load(PATH) == (after(before, commits), [[(50, 50)]])
+    now = Store(PATH)
+    assert now.values() == after(before, [[(50, 50)]]) and len(now.segments) == segments + 1
+    assert now.segments[-1].closed == 0
 
 
-def killed_at_every_call():
-    deaths = 0
-    for call, turns in TURNS.items():
-        for turn in range(1, turns + 1):
-            for how in KILLS.get(call, ["kill_before", "kill_after"]):
-                status, told, errors, shown = served(call, turn, how)
-                assert status == -9, f"{call} {turn} {how}: status {status}"
-                kept(shown, 1)
-                goes_on(shown)
-                deaths += 1
-    return f"{deaths} deaths"
+def killed(turn):
+    """Serves the script up to a system call: whether the host was killed there, and what it told."""
+    done = subprocess.run([KILLER, str(turn), HOST, "--store", PATH], input=SCRIPT.encode(), capture_output=True,
+                          timeout=60)
+    assert done.returncode in (0, 1), f"turn {turn}: {done.returncode} {done.stderr}"
+    return done.returncode == 0, done.stdout.decode(), done.stderr.decode()
 
 
-def synced_before_shown():
-    """Killed when a commit is to be synced, the host has not shown it; killed behind that, neither."""
-    for turn in range(1, len(COMMITS) + 1):
-        for how in ["kill_before", "kill_after"]:
-            shown = served("fdatasync", turn, how)[3]
-            assert shown == turn - 1, f"turn {turn}: {shown} commits shown"
-            assert load(PATH)[1] == COMMITS[:turn]
+def killed_at_every_call(kind):
+    def body():
+        turn, goes = 1, True
+        while goes:
+            old_store(kind)
+            goes, told, errors = killed(turn)
+            kept(told, kind)
+            # The first calls only start the program.
+            if turn > 60 or turn % 10 == 0:
+                goes_on()
+            turn += 1
+        assert turn > 200 and int(errors) == turn - 2
+        return f"{turn - 2} deaths"
+    return body
 
 
-def a_commit_that_cannot_be_written():
-    for call, first in [("pwrite", 2), ("fdatasync", 1)]:
-        for commit in range(len(COMMITS)):
-            status, told, errors, shown = served(call, first + commit, "fail")
-            assert status == 3 and shown == commit, f"{call}: status {status}, {shown} shown"
-            assert "Input/output error" in errors and "the commit of desk 4 could not be written" in errors, errors
-            assert "What changed" not in told and "desk 4 ends" not in told.splitlines()[-1], told
-            kept(shown, 1)
-            goes_on(shown)
+def served(call, turn, how, kind="closed"):
+    old_store(kind)
+    environment = {"LD_PRELOAD": SHIM, "CHAFFDANCER_FAULT": f"{call}:{turn}:{how}"}
+    return serve(HOST, PATH, SCRIPT, environment)
 
 
-def a_file_that_cannot_be_replaced():
-    for call, turn in [("pwrite", 1), ("fsync", 1), ("rename", 1), ("fsync", 2)]:
-        status, told, errors, shown = served(call, turn, "fail")
-        assert status == 2 and shown == 0 and "Input/output error" in errors, f"{call} {turn}: {errors}"
-        assert "begins" not in told, told
-        assert not os.path.exists(PATH + ".new")
-        kept(0, 0)
+def every_call_failing(call, kind, how):
+    """Each turn of a call fails once: what was told is kept, and nothing is told from then on."""
+    def body():
+        statuses = []
+        for turn in range(1, 100):
+            status, told, errors = served(call, turn, how, kind)
+            if status == 0 and not errors:
+                kept(told, kind, 0)
+                break
+            assert status in (2, 3) and errors, f"turn {turn}: status {status}, {errors}"
+            assert "What changed" not in told or status == 3, f"turn {turn}: {told}"
+            kept(told, kind)
+            goes_on()
+            statuses.append(status)
+        assert statuses, f"{call} was never called"
+        return f"{len(statuses)} turns, statuses {sorted(set(statuses))}"
+    return body
+
+
+def synced_before_told():
+    """A commit whose sync fails is not told; nor is any behind it."""
+    shown = []
+    for turn in range(1, 20):
+        status, told, errors = served("fdatasync", turn, "EIO")
+        if status == 0:
+            break
+        shown.append(len(numbers_told(told)))
+        assert "Input/output error" in unwrapped(errors), errors
+    # One sync for the segment, one for each commit, one for the note that the host ended.
+    assert shown == [0, 0, 1, 2, 3, 4, 5], shown
+
+
+def a_disk_that_is_full():
+    """Growing fails: the end is not served, nothing is lost, and the room goes on."""
+    remove(PATH)
+    big = [(item, 9) for item in range(3, 64)]
+    script = TABLE_LINES + "".join(transaction(4, big) for _ in range(110)) + transaction(5, [(0, 5)])
+    for turn in range(100, 130):
+        environment = {"LD_PRELOAD": SHIM, "CHAFFDANCER_FAULT": f"pwrite:{turn}:ENOSPC"}
+        remove(PATH)
+        status, told, errors = serve(HOST, PATH, script, environment)
+        if "not served: the disk has no room for the store" in unwrapped(told):
+            break
+    else:
+        raise AssertionError("the disk was never full")
+    assert (status, errors) == (0, ""), errors
+    assert unwrapped(told).count(" not served: ") == 1
+    assert "desk 4 begins: refused 4" in told, "the transaction did not stay open"
+    assert len(Store(PATH).commits()) == len(numbers_told(told)) and Store(PATH).values()[0] == 5
 
 
 def writes_in_parts():
-    for how in ["short", "interrupted"]:
-        for turn in range(1, TURNS["pwrite"] + 1):
-            status, told, errors, shown = served("pwrite", turn, how)
-            assert (status, errors, shown) == (0, "", len(COMMITS)), f"{how} {turn}: {errors}"
-            assert load(PATH) == (after(OPENING, BEFORE), COMMITS)
+    for call in ["pwrite", "pread"]:
+        for how in ["short", "interrupted"]:
+            for turn in range(1, 12):
+                status, told, errors = served(call, turn, how)
+                assert (status, errors) == (0, ""), f"{call} {how} {turn}: {errors}"
+                kept(told, "closed", 0)
 
 
-check("faults: killed at every call of the disk", killed_at_every_call)
-check("faults: synced before shown", synced_before_shown)
-check("faults: a commit that cannot be written is not shown", a_commit_that_cannot_be_written)
-check("faults: a file that cannot be replaced", a_file_that_cannot_be_replaced)
+def is_left_alone():
+    """Whether the host takes the store for damaged; then it has not changed it."""
+    before = bytes_of(PATH)
+    status, told, errors = serve(HOST, PATH, "")
+    assert status in (0, 4), errors
+    assert status == 0 or bytes_of(PATH) == before, "a damaged store was changed"
+    return status == 4
+
+
+def torn_writes():
+    """Killed with only some sectors of a write done, or half its bytes: never taken for whole."""
+    damaged = deaths = 0
+    for how in ["torn", "half"]:
+        for kind in ["none", "closed", "torn"]:
+            for turn in range(1, 20):
+                status, told, errors = served("pwrite", turn, how, kind)
+                if status == 0:
+                    break
+                assert status == -9, errors
+                deaths += 1
+                if how == "torn" or not os.path.exists(PATH):
+                    kept(told, kind)
+                    goes_on()
+                else:
+                    damaged += is_left_alone()
+    assert damaged > 0
+    return f"{deaths} deaths, {damaged} of those within a sector taken for damage"
+
+
+for kind in ["none", "closed", "killed", "torn"]:
+    check(f"faults: killed at every system call, {kind} before", killed_at_every_call(kind))
+for call in ["pwrite", "fdatasync", "fsync", "linkat", "open"]:
+    for how in ["EIO", "ENOSPC", "EROFS"]:
+        check(f"faults: {call} fails with {how}, a new store", every_call_failing(call, "none", how))
+for call in ["pwrite", "fdatasync", "pread", "open"]:
+    for kind in ["closed", "torn"]:
+        check(f"faults: {call} fails, {kind} before", every_call_failing(call, kind, "EIO"))
+check("faults: synced before told", synced_before_told)
+check("faults: a disk that is full", a_disk_that_is_full)
 check("faults: a disk that writes in parts", writes_in_parts)
+check("faults: torn writes", torn_writes)
