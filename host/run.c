@@ -3,9 +3,9 @@
 #include <stdio.h>
 #include <stdlib.h>
 
-#include "memory.h"
+#include "common/memory.h"
+#include "common/statuses.h"
 #include "room/following.h"
-#include "statuses.h"
 #include "words/telling.h"
 
 static int64_t serve_whole(const uint8_t *table, size_t table_length, const uint8_t *requests,

@@ -93,8 +93,11 @@
  *   Table     A journal tells the changes since its opening table; keep both
  *             together. After a restart the table has the new values, the
  *             journal is empty, and the next restart takes that table: put both
- *             on the disk as one, before the first request (a new file that
- *             replaces the old one by rename).
+ *             on the disk as one, before the first request.
+ *   Damage    hub_restart sees what does not fit. A changed value that is within
+ *             its limits fits: keep a checksum over the table and each commit.
+ *   One host  Two hosts that write one file lose each other's commits: lock it.
+ *   chaffdancer-host --store does all of this; chaffdancer-store(5) tells how.
  *
  * RECORDS (all numbers low byte first, no headers, no padding)
  *

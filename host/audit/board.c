@@ -2,9 +2,9 @@
 
 #include <stdlib.h>
 
-#include "memory.h"
+#include "common/memory.h"
+#include "common/statuses.h"
 #include "room/following.h"
-#include "statuses.h"
 #include "store/store.h"
 #include "words/restoring.h"
 #include "words/telling.h"

@@ -4,8 +4,8 @@
 #include <string.h>
 #include <unistd.h>
 
-#include "memory.h"
-#include "statuses.h"
+#include "common/memory.h"
+#include "common/statuses.h"
 #include "store/disk.h"
 #include "store/store.h"
 #include "words/restoring.h"

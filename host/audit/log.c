@@ -2,8 +2,8 @@
 #include <unistd.h>
 
 #include "audit/audit.h"
-#include "memory.h"
-#include "statuses.h"
+#include "common/memory.h"
+#include "common/statuses.h"
 #include "store/disk.h"
 #include "store/reading.h"
 #include "store/store.h"

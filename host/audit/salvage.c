@@ -5,8 +5,8 @@
 #include <unistd.h>
 
 #include "audit/log_form.h"
-#include "memory.h"
-#include "statuses.h"
+#include "common/memory.h"
+#include "common/statuses.h"
 #include "store/disk.h"
 #include "store/mending.h"
 #include "store/reading.h"

@@ -2,7 +2,7 @@
 #ifndef CHAFFDANCER_HOST_FIELDS_H
 #define CHAFFDANCER_HOST_FIELDS_H
 
-#include "complaint.h"
+#include "common/complaint.h"
 #include "script/line.h"
 
 /* 1 and the field, or 0 and the complaint says what is wrong with it. */

@@ -4,7 +4,7 @@
 #include <stdlib.h>
 #include <string.h>
 
-#include "memory.h"
+#include "common/memory.h"
 
 /* A file that is no script at all shall not fill the screen. */
 #define WRONG_LINES_TOLD 20

@@ -3,7 +3,7 @@
 #define CHAFFDANCER_HOST_SCRIPT_H
 
 #include "chaffdancer.h"
-#include "complaint.h"
+#include "common/complaint.h"
 #include "script/line.h"
 #include "script/names.h"
 

@@ -10,7 +10,7 @@
 #include <sys/stat.h>
 #include <unistd.h>
 
-#include "memory.h"
+#include "common/memory.h"
 
 /* The bytes of a store that its lock lies on; who holds it is seen at the second. */
 #define LOCK_PLACE 0

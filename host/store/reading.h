@@ -2,7 +2,7 @@
 #ifndef CHAFFDANCER_HOST_READING_H
 #define CHAFFDANCER_HOST_READING_H
 
-#include "complaint.h"
+#include "common/complaint.h"
 #include "store/frame.h"
 
 #define WINDOW_BYTES (16 * FRAME_BYTES_MOST)

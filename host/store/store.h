@@ -8,7 +8,7 @@
 
 #include <sys/types.h>
 
-#include "complaint.h"
+#include "common/complaint.h"
 #include "store/trail.h"
 
 enum store_state {

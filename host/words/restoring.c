@@ -1,6 +1,6 @@
 #include "words/restoring.h"
 
-#include "statuses.h"
+#include "common/statuses.h"
 #include "words/telling.h"
 
 const char *cause_words(uint8_t cause)

@@ -11,12 +11,22 @@ void saying_begin(struct saying *saying)
     saying->text[0] = '\0';
 }
 
+/* What a script or a path brings in must not steer the terminal. */
+static int is_control(char byte)
+{
+    return ((unsigned char)byte < ' ') || byte == 127;
+}
+
 static void add(struct saying *saying, const char *form, va_list values)
 {
     size_t room = sizeof saying->text - saying->length;
     int count = vsnprintf(saying->text + saying->length, room, form, values);
+    size_t end = saying->length;
     if (count > 0)
-        saying->length += (size_t)count < room ? (size_t)count : room - 1;
+        end += (size_t)count < room ? (size_t)count : room - 1;
+    for (; saying->length < end; saying->length++)
+        if (is_control(saying->text[saying->length]))
+            saying->text[saying->length] = '?';
 }
 
 void say(struct saying *saying, const char *form, ...)

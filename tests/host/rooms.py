@@ -6,6 +6,7 @@ import signal
 import subprocess
 import sys
 import threading
+import time
 
 from store_file import *
 
@@ -146,6 +147,20 @@ def signals_end_in_order():
     assert "Open then, and gone: desk 3." in unwrapped(told), told
 
 
+def a_room_that_never_opened():
+    """Ended or left before the first request, with half a table: nothing is made."""
+    for end in (lambda host: host.send_signal(signal.SIGTERM), lambda host: host.stdin.close()):
+        remove(PATH)
+        host = subprocess.Popen([HOST, "--store", PATH], stdin=subprocess.PIPE, stdout=subprocess.PIPE, stderr=subprocess.PIPE)
+        host.stdin.write(b"0 0 9 0 open\n")
+        host.stdin.flush()
+        time.sleep(0.1)
+        end(host)
+        told, errors = host.stdout.read(), host.stderr.read().decode()
+        assert host.wait() == (2 if "no line for item 1 so far" in errors else 0) and told == b"", errors
+        assert not os.path.exists(PATH)
+
+
 def a_reader_that_goes_away():
     """Nobody hears the answers: the host stops, and what it committed stands."""
     remove(PATH)
@@ -221,6 +236,7 @@ check("rooms: wrong lines are answered", wrong_lines_are_answered)
 check("rooms: a wrong row opens nothing", a_wrong_row_opens_nothing)
 check("rooms: answers come as lines come", answers_come_as_lines_come)
 check("rooms: signals end the room in order", signals_end_in_order)
+check("rooms: a room that never opened", a_room_that_never_opened)
 check("rooms: a reader that goes away", a_reader_that_goes_away)
 check("rooms: looking beside a busy host", looking_beside_a_busy_host)
 check("rooms: memory stays flat, --live", memory_stays_flat(["--live"], REQUESTS))

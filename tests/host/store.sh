@@ -99,8 +99,8 @@ check_store() {
     check_store_stops
     check "killer compiles" "${CC:-cc}" -std=c99 "${warnings[@]}" tests/host/killer.c -o "$work/killer"
     check "faults compile" "${CC:-cc}" -std=c99 "${warnings[@]}" -shared -fPIC tests/host/faults.c -o "$work/faults.so"
-    local sources=(tests/host/damage.c host/store/*.c host/room/*.c host/script/names.c host/script/line.c host/memory.c
-        host/complaint.c "$library/libhub.a" "$library/libhub_journal.a")
+    local sources=(tests/host/damage.c host/store/*.c host/room/*.c host/script/names.c host/script/line.c host/common/*.c
+        "$library/libhub.a" "$library/libhub_journal.a")
     check "damage compiles" "${CC:-cc}" -std=c99 "${warnings[@]}" -O2 -Iinclude -Ihost "${sources[@]}" -o "$work/damage"
     # Each on its own core as far as there are two: the slow one beside the others.
     "$work/damage" "$quick" "${CHAFFDANCER_STRIDE:-16}" >"$work/damage.told" 2>&1 &

@@ -1,5 +1,5 @@
 #define _POSIX_C_SOURCE 200809L
-#include "complaint.h"
+#include "common/complaint.h"
 
 #include <errno.h>
 #include <stdarg.h>
