@@ -2,7 +2,7 @@
 #ifndef CHAFFDANCER_HOST_RUN_H
 #define CHAFFDANCER_HOST_RUN_H
 
-#include "script/line.h"
+#include "text/line.h"
 
 /* Serves a script, with hub_run or, by_steps, request by request: the exit status. */
 int run_script(const char *name, struct text text, int by_steps);

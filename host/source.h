@@ -2,7 +2,7 @@
 #ifndef CHAFFDANCER_HOST_SOURCE_H
 #define CHAFFDANCER_HOST_SOURCE_H
 
-#include "script/line.h"
+#include "text/line.h"
 
 #define LINE_BYTES_MOST 4096
 

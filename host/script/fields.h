@@ -3,7 +3,7 @@
 #define CHAFFDANCER_HOST_FIELDS_H
 
 #include "common/complaint.h"
-#include "script/line.h"
+#include "text/line.h"
 
 /* 1 and the field, or 0 and the complaint says what is wrong with it. */
 int read_number(struct complaint *wrong, struct text word, const char *what, uint32_t most,

@@ -4,8 +4,8 @@
 
 #include "chaffdancer.h"
 #include "common/complaint.h"
-#include "script/line.h"
-#include "script/names.h"
+#include "text/line.h"
+#include "text/names.h"
 
 /* A row of the table as a line gave it. */
 struct row {

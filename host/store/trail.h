@@ -3,8 +3,8 @@
 #define CHAFFDANCER_HOST_TRAIL_H
 
 #include "chaffdancer.h"
-#include "script/names.h"
 #include "store/frame.h"
+#include "text/names.h"
 
 /* The bytes of the longest commit: all items, and its closing record. */
 #define COMMIT_BYTES_MOST ((CHAFFDANCER_ITEMS + 1) * CHAFFDANCER_RECORD_BYTES)

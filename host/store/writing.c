@@ -7,6 +7,9 @@
 #include "store/disk.h"
 #include "store/store.h"
 
+/* A table with all names fits in a frame. */
+typedef char segment_fits[CHAFFDANCER_TABLE_BYTES + NAMES_BYTES_MOST <= FRAME_BODY_MOST ? 1 : -1];
+
 /* The file grows by zeros, so much at a time: a commit then changes no size, and syncs sooner. */
 #define GROWTH_BYTES (64 * 1024)
 

@@ -1,4 +1,4 @@
-"""Ways in which a host once lost, spoilt or took for whole what it should not: attacks.py HOST PROGRAM FOLDER."""
+"""Ways in which a host once lost, spoilt or took for whole what it should not: attacks.py HOST PROGRAM FOLDER STRIDE."""
 
 import os
 import shutil
@@ -8,7 +8,7 @@ import sys
 
 from store_file import *
 
-HOST, PROGRAM, FOLDER = sys.argv[1:]
+HOST, PROGRAM, FOLDER, STRIDE = *sys.argv[1:4], int(sys.argv[4])
 PATH = os.path.join(FOLDER, "attacked.store")
 OTHER = os.path.join(FOLDER, "attacked.other")
 STORE = ["--journal", PATH]
@@ -105,11 +105,11 @@ def a_store_whose_name_is_taken_away():
 
 
 def flipped_bits():
-    """Every bit of every frame: the host stops, leaves the file alone, and the salvage has all of it back."""
+    """Every STRIDEth bit of the frames: the host stops, leaves the file alone, and the salvage has all of it back."""
     before = fresh()
     end = Store(PATH).end
     wanted = Store(PATH).values()
-    for bit in range(0, 8 * end, 5):
+    for tried, bit in enumerate(range(0, 8 * end, STRIDE)):
         spoilt = bytearray(before)
         spoilt[bit // 8] ^= 1 << bit % 8
         with open(PATH, "wb") as file:
@@ -118,12 +118,12 @@ def flipped_bits():
         assert status == 4 and told == "" and errors, f"bit {bit}: {status} {told}"
         assert bytes_of(PATH) == spoilt, f"bit {bit}: the damaged store was changed"
         assert names() == ["attacked.store"], names()
-        if bit % 3 == 0:
+        if tried % 3 == 0:
             status, told, errors = run(HOST, ["--salvage", PATH, OTHER])
             assert status == 0 and "Nothing was left out." in told, f"bit {bit}: {told}{errors}"
             assert Store(OTHER).values() == wanted and bytes_of(PATH) == spoilt
             os.remove(OTHER)
-    return f"{8 * end // 5 + 1} bits"
+    return f"{tried + 1} bits"
 
 
 def a_ceiling_that_became_another():

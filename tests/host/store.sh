@@ -99,14 +99,16 @@ check_store() {
     check_store_stops
     check "killer compiles" "${CC:-cc}" -std=c99 "${warnings[@]}" tests/host/killer.c -o "$work/killer"
     check "faults compile" "${CC:-cc}" -std=c99 "${warnings[@]}" -shared -fPIC tests/host/faults.c -o "$work/faults.so"
-    local sources=(tests/host/damage.c host/store/*.c host/room/*.c host/script/names.c host/script/line.c host/common/*.c
+    local sources=(tests/host/damage.c host/store/*.c host/room/*.c host/text/*.c host/common/*.c
         "$library/libhub.a" "$library/libhub_journal.a")
     check "damage compiles" "${CC:-cc}" -std=c99 "${warnings[@]}" -O2 -Iinclude -Ihost "${sources[@]}" -o "$work/damage"
     # Each on its own core as far as there are two: the slow one beside the others.
     "$work/damage" "$quick" "${CHAFFDANCER_STRIDE:-16}" >"$work/damage.told" 2>&1 &
     local slow=$!
-    count_told "test of attacks" python3 tests/host/attacks.py "$plain" target/bin/chaffdancer "$quick"
+    count_told "test of attacks" python3 tests/host/attacks.py "$plain" target/bin/chaffdancer "$quick" 5
+    count_told "test of attacks, sanitized" python3 tests/host/attacks.py "$sanitized" target/bin/chaffdancer "$quick" 211
     count_told "test of rooms" python3 tests/host/rooms.py "$plain" "$quick" "${CHAFFDANCER_SOAK:-2000000}"
+    count_told "test of rooms, sanitized" python3 tests/host/rooms.py "$sanitized" "$quick" 0
     count_told "test of faults" python3 tests/host/faults.py "$plain" "$work/killer" "$work/faults.so" "$quick"
     count_told "test of kills" python3 tests/host/kills.py "$plain" "${CHAFFDANCER_KILLS:-300}" 1 "$quick"
     count_told "test of kills on a disk" python3 tests/host/kills.py "$plain" 30 2 "$work"

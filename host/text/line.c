@@ -1,4 +1,4 @@
-#include "script/line.h"
+#include "text/line.h"
 
 #include <string.h>
 

@@ -3,7 +3,7 @@
 #define CHAFFDANCER_HOST_NAMES_H
 
 #include "chaffdancer.h"
-#include "script/line.h"
+#include "text/line.h"
 
 #define NAME_BYTES_MOST 32
 

@@ -1,4 +1,4 @@
-#include "script/names.h"
+#include "text/names.h"
 
 #include <stdio.h>
 #include <string.h>
