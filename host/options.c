@@ -2,16 +2,28 @@
 
 #include <string.h>
 
+/* What stands right behind the word. */
+enum behind { NOTHING, STORE_PATH, COUNT };
+
 static const struct mode_word {
     const char *word;
     enum mode mode;
+    enum behind behind;
     int least, most; /* how many paths go with it */
 } mode_words[] = {
-    {"", SERVE_RUN, 0, 1},         {"--steps", SERVE_STEPS, 0, 1},  {"--live", SERVE_LIVE, 0, 1},
-    {"--store", SERVE_LIVE, 0, 1}, {"--journal", SERVE_LIVE, 0, 1}, {"--board", BOARD, 1, 1},
-    {"--log", LOG, 1, 1},          {"--salvage", SALVAGE, 2, 2},    {"--keep", KEEP, 2, 2},
-    {"--import", IMPORT, 2, 2},    {"--bytes", BYTES, 0, 1},        {"--version", VERSION, 0, 0},
-    {"--help", HELP, 0, 0},
+    {"", SERVE_RUN, NOTHING, 0, 1},
+    {"--steps", SERVE_STEPS, NOTHING, 0, 1},
+    {"--live", SERVE_LIVE, NOTHING, 0, 1},
+    {"--store", SERVE_LIVE, STORE_PATH, 0, 1},
+    {"--journal", SERVE_LIVE, STORE_PATH, 0, 1},
+    {"--board", BOARD, NOTHING, 1, 1},
+    {"--log", LOG, NOTHING, 1, 1},
+    {"--salvage", SALVAGE, NOTHING, 2, 2},
+    {"--keep", KEEP, COUNT, 2, 2},
+    {"--import", IMPORT, NOTHING, 2, 2},
+    {"--bytes", BYTES, NOTHING, 0, 1},
+    {"--version", VERSION, NOTHING, 0, 0},
+    {"--help", HELP, NOTHING, 0, 0},
 };
 
 static const struct mode_word *mode_word(const char *argument)
@@ -54,22 +66,20 @@ static int read_mode(struct options *options, const struct mode_word *word, int 
                      char **arguments, int *place)
 {
     const char *behind;
-    if (options->mode_given)
+    if (options->word != 0)
         return 0;
-    options->mode_given = (int)(word - mode_words);
+    options->word = (int)(word - mode_words);
     options->mode = word->mode;
-    if (strcmp(word->word, "--store") != 0 && strcmp(word->word, "--journal") != 0 &&
-        word->mode != KEEP)
+    if (word->behind == NOTHING)
         return 1;
     behind = word_behind(count, arguments, place);
     if (behind == NULL)
         return 0;
-    if (word->mode != KEEP) {
+    if (word->behind == STORE_PATH)
         options->store = behind;
-        return 1;
-    }
-    options->keep = count_of(behind);
-    return options->keep > 0;
+    else
+        options->keep = count_of(behind);
+    return options->store != NULL || options->keep > 0;
 }
 
 static int read_argument(struct options *options, int count, char **arguments, int *place)
@@ -93,6 +103,14 @@ static int read_argument(struct options *options, int count, char **arguments, i
     return 1;
 }
 
+/* The spring session stands for a script. */
+static int may_have_spring(const struct options *options)
+{
+    return options->path_count == 0 &&
+           (options->mode == SERVE_RUN || options->mode == SERVE_STEPS ||
+            options->mode == SERVE_LIVE);
+}
+
 int read_options(struct options *options, int count, char **arguments)
 {
     const struct mode_word *word;
@@ -102,9 +120,8 @@ int read_options(struct options *options, int count, char **arguments)
     for (place = 1; place < count; place++)
         if (!read_argument(options, count, arguments, &place))
             return 0;
-    word = &mode_words[options->mode_given];
-    if (options->spring &&
-        (options->path_count > 0 || word->most != 1 || word->least != 0 || options->mode == BYTES))
+    word = &mode_words[options->word];
+    if (options->spring && !may_have_spring(options))
         return 0;
     return options->path_count >= word->least && options->path_count <= word->most;
 }

@@ -20,7 +20,7 @@ enum mode {
 
 struct options {
     enum mode mode;
-    int mode_given;
+    int word; /* which of the words in options.c gave the mode; 0 for none */
     int spring;
     const char *store;
     uint32_t keep;

@@ -25,14 +25,15 @@ static void tell_rows(const struct trail *trail, const uint8_t *table)
 {
     uint32_t item;
     printf("\nitem      value      floor    ceiling kind    name\n");
-    for (item = 0; item < CHAFFDANCER_ITEMS; item++)
-        printf("%4lu %10lu %10lu %10lu %s%s%s\n", (shown)item, (shown)value_of(table, item),
-               (shown)floor_of(table, item), (shown)ceiling_of(table, item),
-               is_guarded(table, item) ? "guarded" : "open",
-               trail->names.items[item][0] == '\0' ? ""
-               : is_guarded(table, item)           ? " "
-                                                   : "    ",
-               trail->names.items[item]);
+    for (item = 0; item < CHAFFDANCER_ITEMS; item++) {
+        const char *kind = is_guarded(table, item) ? "guarded" : "open";
+        printf("%4lu %10lu %10lu %10lu ", (shown)item, (shown)value_of(table, item),
+               (shown)floor_of(table, item), (shown)ceiling_of(table, item));
+        if (trail->names.items[item][0] == '\0')
+            printf("%s\n", kind);
+        else
+            printf("%-7s %s\n", kind, trail->names.items[item]);
+    }
 }
 
 static void tell_board(const struct trail *trail, pid_t holder, int unfinished)

@@ -105,24 +105,38 @@ static int find_frame(struct salvage *salvage, uint8_t bytes[FRAME_BYTES_MOST], 
     return 1;
 }
 
+/* What can be read from the slot on, up to a frame's length: where the disk fails, slot by slot. */
+static size_t read_slots(struct salvage *salvage, uint8_t bytes[FRAME_BYTES_MOST])
+{
+    uint64_t place = (uint64_t)salvage->slot * SLOT_BYTES;
+    size_t length;
+    ssize_t count;
+    const uint8_t *there = reading_bytes(&salvage->reading, place, FRAME_BYTES_MOST, &length);
+    if (there != NULL) {
+        memcpy(bytes, there, length);
+        return length;
+    }
+    length = 0;
+    do {
+        count = disk_read(salvage->reading.file, place + length, bytes + length, SLOT_BYTES);
+        if (count > 0)
+            length += (size_t)count;
+    } while (count == SLOT_BYTES && length < FRAME_BYTES_MOST);
+    return length;
+}
+
 /* Goes on behind the frame at the slot, or to the next slot: 1, or 0. */
 static int copy_slot(struct salvage *salvage)
 {
     uint8_t bytes[FRAME_BYTES_MOST];
     struct frame frame;
-    size_t length;
-    const uint8_t *there = reading_bytes(&salvage->reading, (uint64_t)salvage->slot * SLOT_BYTES,
-                                         FRAME_BYTES_MOST, &length);
+    size_t length = read_slots(salvage, bytes);
     uint32_t slots = 1;
-    if (there == NULL)
-        length = 0;
-    else
-        memcpy(bytes, there, length);
     if (find_frame(salvage, bytes, length, &frame)) {
         slots = (uint32_t)(frame_bytes(frame.length) / SLOT_BYTES);
         if (!copy_frame(salvage, &frame))
             return 0;
-    } else if (there != NULL && all_zero(bytes, length < SLOT_BYTES ? length : SLOT_BYTES)) {
+    } else if (length > 0 && all_zero(bytes, length < SLOT_BYTES ? length : SLOT_BYTES)) {
         end_unreadable(salvage);
     } else if (salvage->unreadable == 0) {
         salvage->unreadable = salvage->slot;
@@ -131,21 +145,18 @@ static int copy_slot(struct salvage *salvage)
     return 1;
 }
 
-/* The mark of a store whose signature is lost: that of the first frame that is right. */
+/* The mark of a store whose signature is lost: that of the first header that is right. */
 static int find_mark(struct salvage *salvage)
 {
+    uint8_t bytes[FRAME_BYTES_MOST];
     struct frame frame;
-    size_t length;
-    uint32_t slot, slots = (uint32_t)(salvage->reading.size / SLOT_BYTES);
-    for (slot = 1; slot < slots; slot++) {
-        const uint8_t *bytes = reading_bytes(&salvage->reading, (uint64_t)slot * SLOT_BYTES,
-                                             FRAME_BYTES_MOST, &length);
-        if (bytes != NULL && length >= SLOT_BYTES && frame_get_header(bytes, &frame) &&
-            frame.slot == slot) {
+    uint32_t slots = (uint32_t)(salvage->reading.size / SLOT_BYTES);
+    for (salvage->slot = 1; salvage->slot < slots; salvage->slot++)
+        if (read_slots(salvage, bytes) >= SLOT_BYTES && frame_get_header(bytes, &frame) &&
+            frame.slot == salvage->slot) {
             salvage->reading.signature.mark = frame.mark;
             return 1;
         }
-    }
     return 0;
 }
 
@@ -153,11 +164,12 @@ static int find_mark(struct salvage *salvage)
 static int begin_reading(struct salvage *salvage, int file)
 {
     uint8_t bytes[SLOT_BYTES];
-    enum found found = reading_begin(&salvage->reading, file);
-    if (found == FOUND_FRAME)
+    struct signature *signature = &salvage->reading.signature;
+    int is_there = disk_read(file, 0, bytes, sizeof bytes) == (ssize_t)sizeof bytes;
+    if (reading_begin(&salvage->reading, file) == FOUND_FRAME ||
+        (is_there && signature_get(bytes, signature)))
         return 1;
-    if (disk_read(file, 0, bytes, sizeof bytes) == (ssize_t)sizeof bytes &&
-        mend_signature(bytes, &salvage->reading.signature)) {
+    if (is_there && mend_signature(bytes, signature)) {
         tell_mended(salvage);
         return 1;
     }

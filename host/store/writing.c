@@ -185,10 +185,13 @@ static int add_segment(struct store *store, enum cause cause, const uint8_t *tab
     memcpy(body, table, CHAFFDANCER_TABLE_BYTES);
     if (store->segment == UINT32_MAX)
         return complain(&store->complaint, "the store has come to its last segment");
-    store->segment++;
     frame = frame_now(store, FRAME_SEGMENT, cause, body,
                       CHAFFDANCER_TABLE_BYTES + names_put(names, body + CHAFFDANCER_TABLE_BYTES));
-    return store_add_frame(store, &frame);
+    frame.segment++;
+    if (!store_add_frame(store, &frame))
+        return 0;
+    store->segment = frame.segment;
+    return 1;
 }
 
 int store_begin_segment(struct store *store, enum cause cause,

@@ -1,6 +1,7 @@
 /*
  * Preloaded before the host: at one call of its disk something goes wrong.
- * CHAFFDANCER_FAULT is CALL:TURN:HOW, such as fdatasync:3:EIO.
+ * CHAFFDANCER_FAULT is CALL:TURN:HOW, such as fdatasync:3:EIO. With sector:BYTE:EIO
+ * the sector in which that byte stands can never be read.
  */
 #define _GNU_SOURCE
 #include <errno.h>
@@ -81,12 +82,31 @@ int __open_2(const char *path, int flags)
     return open(path, flags);
 }
 
+/* Whether the stretch has a byte of the sector that cannot be read; up to it all is well. */
+static size_t readable(size_t length, off_t place)
+{
+    long byte;
+    const char *fault = getenv("CHAFFDANCER_FAULT");
+    off_t sector;
+    if (fault == NULL || sscanf(fault, "sector:%ld:", &byte) != 1)
+        return length;
+    sector = byte / 512 * 512;
+    if (place + (off_t)length <= sector || place >= sector + 512)
+        return length;
+    return place < sector ? (size_t)(sector - place) : 0;
+}
+
 ssize_t pread(int file, void *bytes, size_t length, off_t place)
 {
     static int turns;
     const char *how = how_now("pread", &turns);
     if (fails(how))
         return -1;
+    if (length > 0 && readable(length, place) == 0) {
+        errno = EIO;
+        return -1;
+    }
+    length = readable(length, place);
     if (strcmp(how, "interrupted") == 0) {
         errno = EINTR;
         return -1;

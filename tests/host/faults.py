@@ -144,6 +144,30 @@ def a_disk_that_is_full():
     assert len(Store(PATH).commits()) == len(numbers_told(told)) and Store(PATH).values()[0] == 5
 
 
+def a_sector_that_cannot_be_read():
+    """The host stops; the salvage has all that does not stand there, and what stands behind it is told."""
+    saved = PATH + ".saved"
+    remove(PATH)
+    commits = [[(3, place)] for place in range(40)]
+    serve(HOST, PATH, TABLE_LINES + "".join(transaction(6, commit) for commit in commits))
+    end = Store(PATH).end
+    for place in range(0, end, 512):
+        environment = {"LD_PRELOAD": SHIM, "CHAFFDANCER_FAULT": f"sector:{place}:EIO"}
+        status, told, errors = serve(HOST, PATH, "", environment)
+        assert status == 2 and "cannot be read" in unwrapped(errors), f"{place}: {status} {errors}"
+        remove(saved)
+        status, told, errors = run(HOST, ["--salvage", PATH, saved], "", environment)
+        if place < 1152:  # the signature, or the only table
+            assert status == 4, f"{place}: {told}"
+            continue
+        kept = Store(saved).commits()
+        told = unwrapped(told)
+        lost = [place for place in range(len(kept), 40) if f"desk 6: item 3 = {place}\n" not in told]
+        assert status == 4 and kept == commits[: len(kept)] and len(lost) <= 8, f"{place}: lost {lost}"
+        assert kept or place < 1664, f"{place}: nothing was kept"
+    remove(saved)
+
+
 def writes_in_parts():
     for call in ["pwrite", "pread"]:
         for how in ["short", "interrupted"]:
@@ -192,5 +216,6 @@ for call in ["pwrite", "fdatasync", "pread", "open"]:
         check(f"faults: {call} fails, {kind} before", every_call_failing(call, kind, "EIO"))
 check("faults: synced before told", synced_before_told)
 check("faults: a disk that is full", a_disk_that_is_full)
+check("faults: a sector that cannot be read", a_sector_that_cannot_be_read)
 check("faults: a disk that writes in parts", writes_in_parts)
 check("faults: torn writes", torn_writes)
