@@ -90,29 +90,36 @@ static void say_abort(struct saying *saying, const struct names *names,
     say(saying, "; %s keeps its age", desk_name(names, answer->desk, of_desk));
 }
 
-/* A write that was refused may have been the reason for the whole transaction. */
+static uint32_t refused_count(const struct followed_desk *desk)
+{
+    uint32_t item, count = 0;
+    for (item = 0; item < sizeof desk->refused; item++)
+        count += desk->refused[item];
+    return count;
+}
+
+/* A write that was refused may have been what the whole transaction was for. */
 static void say_refused_items(struct saying *saying, const struct names *names,
-                              const struct followed_desk *desk, const char *before)
+                              const struct followed_desk *desk)
 {
     char of_item[NAME_SHOWN_BYTES];
-    uint32_t item, told = 0;
+    uint32_t item, told = 0, count = refused_count(desk);
     for (item = 0; item < sizeof desk->refused; item++)
         if (desk->refused[item])
-            say(saying, "%s%s", told++ == 0 ? before : ", ", item_name(names, item, of_item));
-    if (told > 0)
-        say(saying, told == 1 ? " was refused" : " were refused");
+            say(saying, "%s%s", told++ == 0 ? (count == 1 ? "the write to " : "writes to ") : ", ",
+                item_name(names, item, of_item));
+    say(saying, count == 1 ? " was refused" : " were refused");
 }
 
 static void say_committed(struct saying *saying, const struct names *names,
                           const struct followed_desk *desk, shown number)
 {
-    say(saying, "committed as number %lu", number);
-    if (stored_count(desk) == 0) {
-        say(saying, ", with nothing written");
-        say_refused_items(saying, names, desk, ": what was written to ");
-    } else {
-        say_refused_items(saying, names, desk, "; what was written to ");
-    }
+    int nothing = stored_count(desk) == 0, refused = refused_count(desk) > 0;
+    say(saying, "committed as number %lu%s", number, nothing ? ", with nothing written" : "");
+    if (!refused)
+        return;
+    say(saying, nothing ? ": " : "; ");
+    say_refused_items(saying, names, desk);
 }
 
 static void say_answer(struct saying *saying, const struct names *names,

@@ -144,6 +144,40 @@ def a_disk_that_is_full():
     assert len(Store(PATH).commits()) == len(numbers_told(told)) and Store(PATH).values()[0] == 5
 
 
+def on_a_small_disk():
+    """A real file system of its own, full and then read only; left to the faults above where none may be mounted."""
+    folder = os.path.join(FOLDER, "small")
+    path = os.path.join(folder, "small.store")
+    os.makedirs(folder, exist_ok=True)
+    if subprocess.run(["mount", "-t", "tmpfs", "-o", "size=200k", "tmpfs", folder], capture_output=True).returncode != 0:
+        os.rmdir(folder)
+        return "no file system may be mounted here"
+    try:
+        assert serve(HOST, path, TABLE_LINES + transaction(1, [(5, 5)]))[0] == 0
+        with open(os.path.join(folder, "filler"), "wb") as filler:
+            filler.write(bytes(100_000))
+        big = [(item, 9) for item in range(3, 64)]
+        status, told, errors = serve(HOST, path, "".join(transaction(4, big) for _ in range(200)))
+        told = unwrapped(told)
+        assert (status, errors) == (0, ""), errors
+        assert "not served: the disk has no room for the store" in told, told[-300:]
+        assert len(Store(path).commits()) == 1 + len(numbers_told(told)), "a told commit is lost"
+        os.remove(filler.name)
+        values = Store(path).values()
+        status, told, errors = serve(HOST, path, transaction(2, [(6, 6)]))
+        assert (status, errors) == (0, "") and Store(path).values() == after(values, [[(6, 6)]]), errors
+        subprocess.run(["mount", "-o", "remount,ro", folder], check=True)
+        before = bytes_of(path)
+        status, told, errors = serve(HOST, path, transaction(2, [(6, 7)]))
+        assert (status, told) == (2, "") and "Read-only file system" in unwrapped(errors), errors
+        status, told, errors = run(HOST, ["--board", path])
+        assert status == 0 and bytes_of(path) == before, errors
+    finally:
+        subprocess.run(["umount", folder], check=True)
+        os.rmdir(folder)
+    return "a file system of 200 KB"
+
+
 def a_sector_that_cannot_be_read():
     """The host stops; the salvage has all that does not stand there, and what stands behind it is told."""
     saved = PATH + ".saved"
@@ -216,6 +250,7 @@ for call in ["pwrite", "fdatasync", "pread", "open"]:
         check(f"faults: {call} fails, {kind} before", every_call_failing(call, kind, "EIO"))
 check("faults: synced before told", synced_before_told)
 check("faults: a disk that is full", a_disk_that_is_full)
+check("faults: on a small disk", on_a_small_disk)
 check("faults: a sector that cannot be read", a_sector_that_cannot_be_read)
 check("faults: a disk that writes in parts", writes_in_parts)
 check("faults: torn writes", torn_writes)
