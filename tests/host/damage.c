@@ -349,6 +349,32 @@ static void mix_stores(const struct sample *one)
     free(other.bytes);
 }
 
+/* One store that went on in two ways, as if from a backup: no piece of one is taken for the other.
+ */
+static void mix_histories(const struct sample *before)
+{
+    struct sample one, other;
+    uint8_t *mixed = malloc(before->size);
+    size_t slot, refused = 0, tried = 0;
+    must(mixed != NULL, "no memory");
+    put_file(before->bytes, before->size);
+    serve_segment(5000, 0);
+    take_sample(&one, "one", STORE_WHOLE);
+    put_file(before->bytes, before->size);
+    serve_segment(6000, 0);
+    take_sample(&other, "other", STORE_WHOLE);
+    for (slot = before->filled + SLOT_BYTES; slot < one.filled; slot += SLOT_BYTES, tried++) {
+        memcpy(mixed, other.bytes, one.size);
+        memcpy(mixed, one.bytes, slot);
+        refused += memcmp(mixed, one.bytes, one.size) == 0 || is_refused(mixed, one.size);
+    }
+    printf("%s  damage: %lu mixtures of two histories of one store\n",
+           refused == tried && tried > 10 ? "passed" : "FAILED", (unsigned long)tried);
+    free(mixed);
+    free(one.bytes);
+    free(other.bytes);
+}
+
 /* Published values of CRC-32C. */
 static void check_checksum(void)
 {
@@ -384,6 +410,7 @@ int main(int count, char **arguments)
     overwrite_at_random(&killed);
     overwrite_at_random(&closed);
     mix_stores(&killed);
+    mix_histories(&killed);
     free(killed.bytes);
     free(closed.bytes);
     free(torn.bytes);
