@@ -281,8 +281,9 @@ def links_and_modes():
     clear()
     os.mkfifo(PATH)
     for path in (PATH, "/dev/null", "/dev/zero", FOLDER, FOLDER + "/absent/x", PATH + "/x"):
-        status, told, errors = run(HOST, ["--journal", path], MORNING, timeout=10)
-        assert status == 2 and told == "" and errors, f"{path}: {status}"
+        for arguments in (["--journal", path], ["--board", path], ["--log", path], ["--salvage", path, OTHER]):
+            status, told, errors = run(HOST, arguments, MORNING, timeout=10)
+            assert status == 2 and told == "" and errors, f"{arguments}: {status}"
     clear()
 
 
