@@ -165,6 +165,22 @@ def damage_is_kept():
     assert status == 0 and Store(OTHER).values()[9] == 9
 
 
+def a_frame_of_another_store():
+    """A frame that is right in itself and stands in its place, but in another room's store: nobody takes it, nor a salvage."""
+    fresh()
+    other = bytes_of(PATH)
+    before = bytearray(fresh())
+    place = Store(PATH).end - 2 * SLOT  # the second commit; behind it is the note that the host ended
+    before[place : place + SLOT] = other[place : place + SLOT]
+    with open(PATH, "wb") as file:
+        file.write(before)
+    status, told, errors = run(HOST, STORE)
+    assert status == 4 and "of another place, time or store" in unwrapped(errors), errors
+    status, told, errors = run(HOST, ["--salvage", PATH, OTHER])
+    assert status == 4 and f"Left out: bytes {place} to {place + SLOT - 1} cannot be read." in unwrapped(told), told
+    assert Store(OTHER).commits() == [[(0, 7), (2, 115)]]
+
+
 def other_files():
     """A file that is no store is not taken for one, whatever it begins with."""
     clear()
@@ -337,6 +353,7 @@ check("attacks 2: a store whose name is taken away", a_store_whose_name_is_taken
 check("attacks 3: flipped bits", flipped_bits)
 check("attacks 3: a ceiling that became another", a_ceiling_that_became_another)
 check("attacks 4: damage is kept and told", damage_is_kept)
+check("attacks 4: a frame of another store", a_frame_of_another_store)
 check("attacks 5: other files", other_files)
 check("attacks 5: files of earlier hosts", files_of_earlier_hosts)
 check("attacks 6: one malformed line", one_malformed_line)
