@@ -113,6 +113,7 @@ check_store() {
     count_told "test of kills" python3 tests/host/kills.py "$plain" "${CHAFFDANCER_KILLS:-300}" 1 "$quick"
     count_told "test of kills on a disk" python3 tests/host/kills.py "$plain" 30 2 "$work"
     count_told "test of kills, sanitized" python3 tests/host/kills.py "$sanitized" 20 3 "$quick"
-    wait "$slow" || true
-    count_told "test of damage" cat "$work/damage.told"
+    local ended=0
+    wait "$slow" || ended=$?
+    count_told "test of damage" bash -c "cat '$work/damage.told'; exit $ended"
 }
