@@ -1,6 +1,5 @@
 #include "help.h"
 
-/* Several pieces: a string of C99 may be no longer than 4,095 characters. */
 const char help[] =
     "usage: chaffdancer-host [--steps | --live | --store FILE] [SCRIPT | --spring]\n"
     "       chaffdancer-host --board FILE\n"
