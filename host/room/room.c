@@ -12,9 +12,11 @@ struct nearness {
 static const struct nearness near_enough = {1500, 40000};
 /* From here on people are warned. */
 static const struct nearness nearer = {1900, 52000};
+/* What all desks together can still commit. */
+#define BYTES_OF_ALL_DESKS (CHAFFDANCER_DESKS * COMMIT_BYTES_MOST)
+
 /* From here on nobody begins until nobody is open; all who are open still have room to commit. */
-static const struct nearness nearest = {1980, CHAFFDANCER_JOURNAL_BYTES -
-                                                  CHAFFDANCER_DESKS *COMMIT_BYTES_MOST};
+static const struct nearness nearest = {1980, CHAFFDANCER_JOURNAL_BYTES - BYTES_OF_ALL_DESKS};
 
 static int has_reached(const struct room *room, struct nearness near)
 {
