@@ -36,7 +36,7 @@ static void tell_rows(const struct trail *trail, const uint8_t *table)
     }
 }
 
-static void tell_board(const struct trail *trail, pid_t holder, int unfinished)
+static void tell_board(const struct trail *trail, pid_t holder)
 {
     char at[MOMENT_BYTES], of_desk[NAME_SHOWN_BYTES];
     uint8_t table[CHAFFDANCER_TABLE_BYTES];
@@ -50,9 +50,7 @@ static void tell_board(const struct trail *trail, pid_t holder, int unfinished)
         say_line(stdout, "The last commit was at %s, by %s.", moment(trail->last_commit, at),
                  desk_name(&trail->names, trail->last_desk, of_desk));
     tell_who_serves(holder, trail);
-    if (unfinished)
-        say_line(stdout, "At its end stands a commit or segment that is not whole, and was told "
-                         "to nobody.");
+    tell_unfinished(trail->tail);
     if (trail_values(trail, table))
         tell_rows(trail, table);
 }
@@ -65,7 +63,7 @@ int look_at_board(const char *path)
     enum store_state state = store_look(path, trail, &holder, &complaint);
     int status = STATUS_SERVED;
     if (is_readable(state))
-        tell_board(trail, holder, state == STORE_UNFINISHED);
+        tell_board(trail, holder);
     else
         status = tell_unusable(path, state, holder, &complaint);
     free(trail);

@@ -264,9 +264,18 @@ static int copy_store(const char *from, const char *to, uint32_t first_segment, 
     return status;
 }
 
+/* Of a store that is whole, what never came whole behind its last frame is no loss. */
 int salvage_store(const char *from, const char *to)
 {
-    return copy_store(from, to, 0, 0);
+    struct trail *trail = memory_for(1, sizeof *trail);
+    struct complaint complaint;
+    pid_t holder;
+    enum store_state state = store_look(from, trail, &holder, &complaint);
+    size_t tail = trail->tail;
+    uint32_t end = is_readable(state) ? trail->slots : 0;
+    free(trail);
+    tell_unfinished(tail);
+    return copy_store(from, to, 0, end);
 }
 
 int keep_segments(const char *from, const char *to, uint32_t count)

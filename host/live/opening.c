@@ -82,7 +82,7 @@ int open_store(struct live *live, const char *path)
     if (!live->restored)
         return tell_unusable(path, state, live->store.holder, &live->store.complaint);
     live->reader.names = live->trail.names;
-    tell_restored(&live->trail, live->store.unfinished);
+    tell_restored(&live->trail);
     live->above = ABOVE_WORDS;
     return 0;
 }

@@ -54,7 +54,7 @@ void tell_unfinished(size_t bytes)
                  (unsigned long)bytes);
 }
 
-void tell_restored(const struct trail *trail, size_t unfinished)
+void tell_restored(const struct trail *trail)
 {
     char at[MOMENT_BYTES];
     uint8_t table[CHAFFDANCER_TABLE_BYTES];
@@ -69,7 +69,7 @@ void tell_restored(const struct trail *trail, size_t unfinished)
     if (trail_values(trail, table))
         tell_changes(&trail->names, trail->first, table);
     tell_ending(trail);
-    tell_unfinished(unfinished);
+    tell_unfinished(trail->tail);
 }
 
 int tell_unusable(const char *path, enum store_state state, pid_t holder,

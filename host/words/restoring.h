@@ -4,8 +4,8 @@
 
 #include "store/store.h"
 
-/* What a host goes on from; so many bytes of a commit were left that was never told. */
-void tell_restored(const struct trail *trail, size_t unfinished);
+/* What a host goes on from. */
+void tell_restored(const struct trail *trail);
 
 /* How the host of the last segment ended. */
 void tell_ending(const struct trail *trail);

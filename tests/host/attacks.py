@@ -161,6 +161,17 @@ def damage_is_kept():
     assert bytes_of(PATH) == before
     status, told, errors = run(HOST, ["--salvage", PATH, OTHER])
     assert status == 2 and "it is there already, and was left as it is" in unwrapped(errors), errors
+    # What never came whole is no damage, and no loss.
+    whole = bytearray(fresh())
+    end = Store(PATH).end
+    whole[(end // 512 + 1) * 512 + 3] = 7
+    with open(PATH, "wb") as file:
+        file.write(whole)
+    status, told, errors = run(HOST, ["--salvage", PATH, OTHER])
+    assert status == 0 and "it never came whole, so it was never told" in unwrapped(told), told + errors
+    assert "Nothing was left out." in told and Store(OTHER).commits() == Store(PATH).commits()
+    status, told, errors = run(HOST, ["--board", PATH])
+    assert status == 0 and "it never came whole, so it was never told" in unwrapped(told), told + errors
     status, told, errors = run(HOST, ["--journal", OTHER], transaction(9, [(9, 9)]))
     assert status == 0 and Store(OTHER).values()[9] == 9
 
