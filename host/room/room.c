@@ -62,7 +62,6 @@ static enum served turn_over(struct room *room)
     memcpy(table, room->follower.table, sizeof table);
     if (open_board(room, CAUSE_TURNOVER, table) != 0)
         return NOT_SERVED_UNSAFE;
-    room->turnovers++;
     return SERVED_AFTER_TURNING;
 }
 

@@ -16,7 +16,6 @@ struct room {
     struct follower follower;
     chaffdancer_journaled board;
     uint8_t journal[CHAFFDANCER_JOURNAL_BYTES];
-    uint32_t turnovers;
     int warned; /* that begins will be refused soon */
 };
 

@@ -15,7 +15,7 @@
  */
 char *disk_resolve(const char *path);
 
-/* Opens a regular file that is there: its descriptor, or -1 (EFTYPE is told as EINVAL). */
+/* Opens a regular file that is there: its descriptor, or -1 (EINVAL if it is no file). */
 int disk_open(const char *path, int writable);
 
 /* How many bytes the file has: 1, or 0. */

@@ -76,9 +76,6 @@ int store_note_closing(struct store *store, uint32_t open_desks);
 /* Lets go of the file and its lock. Also due where it could not be opened. */
 void store_close(struct store *store);
 
-/* Milliseconds since 1970, UTC. */
-uint64_t store_time(void);
-
 /*
  * A store that is copied frame by frame into an absent one: the new file is made
  * without a name, with mode and owner of the one like it (or 0600 if that is -1),

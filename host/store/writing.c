@@ -13,7 +13,8 @@ typedef char segment_fits[CHAFFDANCER_TABLE_BYTES + NAMES_BYTES_MOST <= FRAME_BO
 /* The file grows by zeros, so much at a time: a commit then changes no size, and syncs sooner. */
 #define GROWTH_BYTES (64 * 1024)
 
-uint64_t store_time(void)
+/* Milliseconds since 1970, UTC. */
+static uint64_t time_now(void)
 {
     struct timespec now;
     if (clock_gettime(CLOCK_REALTIME, &now) != 0)
@@ -80,7 +81,7 @@ static struct frame frame_now(const struct store *store, enum frame_kind kind, u
     frame.kind = (uint8_t)kind;
     frame.detail = (uint8_t)detail;
     frame.segment = store->segment;
-    frame.time = store_time();
+    frame.time = time_now();
     frame.body = body;
     frame.length = length;
     return frame;
@@ -159,7 +160,7 @@ int store_make(struct store *store, int like)
     if (!disk_lock(store->file, &store->holder) || !draw_mark(store))
         return breaks(store, "the new store cannot be locked and marked");
     signature.mark = store->mark;
-    signature.time = store_time();
+    signature.time = time_now();
     signature_put(bytes, &signature);
     store->slot = 1;
     store->previous = signature.sum;
