@@ -34,7 +34,7 @@ static enum store_state read_through(struct reading *reading, int file, struct t
         (trail->segments == 0 || !trail_values(trail, table)))
         fault = "the records of the last segment do not fit";
     trail->slots = reading->slot;
-    trail->tail = found == FOUND_UNFINISHED ? reading->unfinished : 0;
+    trail->tail = found == FOUND_UNFINISHED ? reading->tail : 0;
     if (fault != NULL) {
         complain(&reading->complaint, "%s at byte %llu of %llu", fault, (unsigned long long)place,
                  (unsigned long long)reading->size);
@@ -101,7 +101,7 @@ enum store_state store_open(struct store *store, const char *path, struct trail 
     store->slot = reading->slot;
     store->previous = reading->previous;
     store->segment = trail->segment;
-    store->unfinished = trail->tail;
+    store->tail = trail->tail;
     store->complaint = reading->complaint;
     free(reading);
     return state;

@@ -128,10 +128,10 @@ static enum found at_the_end(struct reading *reading)
     memcpy(bytes, there, length);
     if (!zeros_to_the_end(reading, place + length, &failed))
         return failed ? FOUND_FAILURE : damage(reading, "a frame does not fit its checksum");
-    reading->unfinished = filled(bytes, length);
-    if (reading->unfinished == 0)
+    reading->tail = filled(bytes, length);
+    if (reading->tail == 0)
         return FOUND_END;
-    if (is_unfinished(place, bytes, reading->unfinished))
+    if (is_unfinished(place, bytes, reading->tail))
         return FOUND_UNFINISHED;
     return damage(reading, "a frame does not fit its checksum");
 }

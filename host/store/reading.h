@@ -13,7 +13,7 @@ struct reading {
     struct signature signature;
     uint32_t slot;     /* where the next frame is due */
     uint32_t previous; /* the checksum that it has to name */
-    size_t unfinished; /* bytes of a frame that was being written, behind the last */
+    size_t tail;       /* bytes behind the last frame, of one that never came whole */
     struct complaint complaint;
     uint64_t window_place;
     size_t window_length;

@@ -35,9 +35,9 @@ struct store {
     uint32_t slot;     /* where the next frame goes */
     uint32_t previous; /* the checksum that it names */
     uint32_t segment;
-    size_t unfinished; /* bytes behind the last frame of one that never came whole */
-    int broken;        /* something could not be written: nothing more may be told */
-    pid_t holder;      /* of the host that has it open, where that is the trouble */
+    size_t tail;  /* bytes behind the last frame, of one that never came whole */
+    int broken;   /* something could not be written: nothing more may be told */
+    pid_t holder; /* of the host that has it open, where that is the trouble */
     struct complaint complaint;
 };
 

@@ -29,7 +29,7 @@ struct trail {
     uint64_t closed_at;
     uint32_t open_desks; /* a bit for each */
     int unfinished;      /* a frame that never came whole was put away */
-    size_t tail;         /* bytes behind the last frame of one that never came whole */
+    size_t tail;         /* bytes behind the last frame, of one that never came whole */
 };
 
 void trail_begin(struct trail *trail);

@@ -128,7 +128,7 @@ static int put_unfinished_away(struct store *store)
     uint8_t left[FRAME_BYTES_MOST];
     struct frame frame;
     uint64_t place = (uint64_t)store->slot * SLOT_BYTES;
-    size_t length = store->unfinished;
+    size_t length = store->tail;
     if (length == 0)
         return 1;
     if (disk_read(store->file, place, left, length) != (ssize_t)length)
@@ -137,7 +137,7 @@ static int put_unfinished_away(struct store *store)
         return breaks(store, "the store cannot be written");
     frame = frame_now(store, FRAME_UNFINISHED, 0, left,
                       length < FRAME_BODY_MOST ? length : FRAME_BODY_MOST);
-    store->unfinished = 0;
+    store->tail = 0;
     return store_add_frame(store, &frame) && store_sync(store);
 }
 

@@ -176,6 +176,38 @@ def damage_is_kept():
     assert status == 0 and Store(OTHER).values()[9] == 9
 
 
+def a_loss_in_an_earlier_segment():
+    """What a later segment begins with stands in its own table: it is taken over whole, and marked."""
+    fresh()
+    second = [[(6, place)] for place in range(5)]
+    assert run(HOST, STORE, "".join(transaction(6, commit) for commit in second))[0] == 0
+    store = Store(PATH)
+    before = bytearray(store.data)
+    place = before.index(bytes([1, 5, 2, 0, 5, 0, 0, 0])) // SLOT * SLOT  # the second commit of the first segment
+    before[place + 8 : place + 24] = b"?" * 16
+    with open(PATH, "wb") as file:
+        file.write(before)
+    assert run(HOST, STORE)[0] == 4
+    status, told, errors = run(HOST, ["--salvage", PATH, OTHER])
+    assert status == 4 and f"Left out: bytes {place} to {place + SLOT - 1} cannot be read." in unwrapped(told), told + errors
+    saved = Store(OTHER)
+    assert [segment.cause for segment in saved.segments] == [NEW, SALVAGE], "the gap is not marked"
+    assert saved.segments[0].commits == [[(0, 7), (2, 115)]] and saved.segments[1].commits == second
+    assert saved.values() == store.values(), "the present values are not those of the store"
+    status, told, errors = run(HOST, ["--journal", OTHER], transaction(9, [(9, 9)]))
+    assert (status, errors) == (0, "") and Store(OTHER).values() == after(store.values(), [[(9, 9)]]), errors
+    # The table of a later segment is lost: its commits are told, and the values before it are kept.
+    before = bytearray(store.data)
+    place = before.index(store.segments[1].table[:16], 1200) // SLOT * SLOT
+    before[place + 100 : place + 140] = b"?" * 40
+    os.remove(OTHER)
+    with open(PATH, "wb") as file:
+        file.write(before)
+    status, told, errors = run(HOST, ["--salvage", PATH, OTHER])
+    assert status == 4 and Store(OTHER).commits() == store.segments[0].commits, told + errors
+    assert all(f", number {number + 1}, desk 6: item 6 = {number}\n" in told for number in range(5)), told
+
+
 def a_frame_of_another_store():
     """A frame that is right in itself and stands in its place, but in another room's store: nobody takes it, nor a salvage."""
     fresh()
@@ -364,6 +396,7 @@ check("attacks 2: a store whose name is taken away", a_store_whose_name_is_taken
 check("attacks 3: flipped bits", flipped_bits)
 check("attacks 3: a ceiling that became another", a_ceiling_that_became_another)
 check("attacks 4: damage is kept and told", damage_is_kept)
+check("attacks 4: a loss in an earlier segment", a_loss_in_an_earlier_segment)
 check("attacks 4: a frame of another store", a_frame_of_another_store)
 check("attacks 5: other files", other_files)
 check("attacks 5: files of earlier hosts", files_of_earlier_hosts)

@@ -131,8 +131,9 @@ class Store:
             segment = Segment(frame)
             if self.segments:
                 last = self.segments[-1]
-                assert segment.number == last.number + 1, "a segment is missing"
-                assert segment.opening == last.values(), "a segment does not go on from the last"
+                gap = segment.cause == SALVAGE
+                assert segment.number > last.number and (gap or segment.number == last.number + 1), "a segment is missing"
+                assert gap or segment.opening == last.values(), "a segment does not go on from the last"
             self.segments.append(segment)
             return
         segment = self.segments[-1]
