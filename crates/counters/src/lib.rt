@@ -1,11 +1,13 @@
 // Ages and transaction numbers: two counters, never compared with each other.
 // Both begin at 0, the first one given is 1, and the hub gives no age above 2,000 and so no number above it.
+#![tactic(auto)]
+
 ghost use Rattle.std.specs.Prelude.{◌≡◌, ◌+◌, ◌-◌, ◌≤◌, ◌<◌, ◌%◌, ltb};
 ghost use Rattle.counters.specs.Counters.{next_age, next_number, later_number};
 
 // A transaction's age: the lower, the older.
 #[repr(C)]
-#[derive(Drop)]
+#[derive(Clone, Copy)]
 pub struct Age(pub u32);
 
 impl Age {
@@ -29,7 +31,7 @@ impl Age {
 
 // A transaction's number, in the order of commits.
 #[repr(C)]
-#[derive(Drop)]
+#[derive(Clone, Copy)]
 pub struct Number(pub u32);
 
 impl Number {

@@ -8,7 +8,7 @@ use items::Items;
 
 // A desk's record: its open transaction, or all zero but for an age kept from an abort. It has no padding, so that it is copied whole.
 #[repr(C)]
-#[derive(Drop)]
+#[derive(Clone, Copy)]
 pub struct Desk {
     pub busy: u64, // 1 while a transaction is open, else 0
     pub age: Age,

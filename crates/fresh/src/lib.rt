@@ -10,7 +10,7 @@ use records::room;
 use table::wrong;
 
 // The board, and the number that is returned.
-#[derive(Drop)]
+#[derive(Clone, Copy)]
 pub struct Opened {
     pub board: Journaled,
     pub code: i64,

@@ -1,10 +1,12 @@
 // Sets of the sixty-four items.
+#![tactic(auto)]
+
 ghost use Rattle.std.specs.Prelude.{◌≡◌, ◌<◌};
 ghost use Rattle.items.specs.Items.{has, with, without, common, joined, empty, lowest};
 
 // A set of the items 0 to 63: item i is in it where the bit i is set.
 #[repr(C)]
-#[derive(Drop)]
+#[derive(Clone, Copy)]
 pub struct Items(pub u64);
 
 impl Items {

@@ -16,14 +16,14 @@ use wire::Answer;
 
 // A board, and how many bytes of its journal hold records.
 #[repr(C)]
-#[derive(Drop)]
+#[derive(Clone, Copy)]
 pub struct Journaled {
     pub board: Board,
     pub used: usize,
 }
 
 // The board after a request, and the answer to it.
-#[derive(Drop)]
+#[derive(Clone, Copy)]
 pub struct Stepped {
     pub board: Journaled,
     pub answer: Answer,

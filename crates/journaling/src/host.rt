@@ -8,7 +8,7 @@ use crate::run::serve;
 use journal::Journaled;
 
 // The board, and the answer's bytes.
-#[derive(Drop)]
+#[derive(Clone, Copy)]
 pub struct Told {
     pub board: Journaled,
     pub bytes: [u8; 12],

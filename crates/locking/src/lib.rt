@@ -23,7 +23,7 @@ fn conflicts(k: Desk, i: usize, w: bool) -> bool
 }
 
 // A holder found so far: the desk, 16 for none, and its age.
-#[derive(Drop)]
+#[derive(Clone, Copy)]
 struct Found {
     desk: usize,
     age: Age,

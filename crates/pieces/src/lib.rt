@@ -1,4 +1,6 @@
 // Pieces of a buffer: requests of 8 bytes, answers of 12, values of 4.
+#![tactic(auto)]
+
 ghost use Rattle.std.specs.Prelude.{◌≡◌, ◌++◌, ◌+◌, ◌≤◌, length, take, drop};
 ghost use Rattle.std.proofs.Math.Seq.{paste};
 ghost use Rattle.pieces.specs.Pieces.{four_each};

@@ -10,7 +10,7 @@ use words::{number, number_at};
 
 // The whole commits so far and the values after them; of the commit that is being read, how many items, the lowest that may come next,
 // and the values with these; and whether the reading has stopped.
-#[derive(Drop)]
+#[derive(Clone, Copy)]
 pub struct Reading {
     pub commits: u32,
     pub whole: [u32; 64],

@@ -9,14 +9,14 @@ use opening::opening;
 use table::wrong;
 
 // The board, and the number that is returned.
-#[derive(Drop)]
+#[derive(Clone, Copy)]
 pub struct Opened {
     pub board: Board,
     pub code: i64,
 }
 
 // The board, and the answer's bytes.
-#[derive(Drop)]
+#[derive(Clone, Copy)]
 pub struct Told {
     pub board: Board,
     pub bytes: [u8; 12],

@@ -1,4 +1,6 @@
 // The opening table: 64 rows of 16 bytes.
+#![tactic(auto)]
+
 ghost use Rattle.std.specs.Prelude.{◌≡◌, ◌+◌, ◌*◌, ◌≤◌, length};
 ghost use Rattle.table.specs.Table.{row_right, wrong};
 

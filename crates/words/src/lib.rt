@@ -1,4 +1,6 @@
 // Words of four bytes and the numbers that they give, low byte first.
+#![tactic(auto)]
+
 ghost use Rattle.std.specs.Prelude.{◌≡◌, ◌+◌, ◌≤◌, length};
 ghost use Rattle.words.specs.Bytes.{word, word_at, four_bytes};
 
