@@ -1,4 +1,6 @@
 // A request: 8 bytes.
+#![tactic(auto)]
+
 ghost use Rattle.std.specs.Prelude.{◌≡◌};
 ghost use Rattle.wire.specs.Requests.{request_of, unused_zero, value_in, decode, desk_of, value_of};
 

@@ -1,4 +1,5 @@
 // A desk's record. The rules of the locks between desks are in specs/, their code is locking.
+#![tactic(auto)]
 
 ghost use Rattle.std.specs.Prelude.{◌≡◌};
 ghost use Rattle.desks.specs.Desks.{blank, opened, idle, is_open};

@@ -1,4 +1,6 @@
 // An answer: 12 bytes.
+#![tactic(auto)]
+
 ghost use Rattle.std.specs.Prelude.{◌≡◌};
 ghost use Rattle.wire.specs.Answers.{record_of, encode};
 

@@ -1,0 +1,6 @@
+-- The callee says it.
+use borrow.Author.Rules.{rules}
+use Rattle.desks.proofs.opened.Goals as goal
+
+pub returns : goal.returns
+returns c = c.blank.ensures
