@@ -1,5 +1,5 @@
 -- The end of a transaction: what validation lets pass relies on nothing stale, and the write sets kept go on.
-use mathlib.Core.Path.{◌≡◌, refl, sym, ◌∙◌}
+use mathlib.Core.Path.{◌≡◌, refl, subst, sym, ◌∙◌}
 use mathlib.Core.Logic.{◌≢◌}
 use mathlib.Core.Bool.{Bool, true, false}
 use mathlib.Core.List.{List, [], ◌∷◌}
@@ -72,8 +72,9 @@ module _ {opening : List ℕ} {b : Board} {h : History} (inv : Inv opening b h) 
   kept_now m i e s =
       by_equal m n.0
       (λ q.
-      rw (q, get_or-set_same b.sets (n.0 % 16) k.written none (rw inv.sound.sets (mod-lt n.0 (zero-lt-suc 15))))
-      (sym (did.puts i) ∙ sym (wrote_by_new new h.done n.0 i (may.next ∙ rw counted refl))))
+      subst (λ (x : ℕ). has (get_or (set b.sets (n.0 % 16) k.written) (x % 16) none) i ≡ wrote_by x (new ∷ h.done) i) (sym q)
+      (rw (get_or-set_same b.sets (n.0 % 16) k.written none (rw inv.sound.sets (mod-lt n.0 (zero-lt-suc 15))))
+      (sym (did.puts i) ∙ sym (wrote_by_new new h.done n.0 i (may.next ∙ rw counted refl)))))
       (λ q.
       let older : m ≤ b.number.0 = omega (arith, may.next) in
       rw (get_or-set_other b.sets (n.0 % 16) (m % 16) k.written none (other_place m n.0 (omega arith) s))

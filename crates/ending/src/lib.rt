@@ -1,4 +1,6 @@
 // What is answered to an end: the validation of what was read.
+#![tactic(auto)]
+
 mod validation;
 
 ghost use Rattle.std.specs.Prelude.{◌≡◌, ◌<◌};

@@ -1,4 +1,6 @@
 // Who holds a guarded item, and what is answered of it.
+#![tactic(auto)]
+
 ghost use Rattle.std.specs.Prelude.{◌≡◌, true, cond, ◌||◌, ◌<◌, eqb, ltb};
 ghost use Rattle.items.specs.Items.{has};
 ghost use Rattle.desks.specs.Desks.{conflicts, holder, locked};

@@ -1,4 +1,6 @@
 // The board of an opening table.
+#![tactic(auto)]
+
 ghost use Rattle.std.specs.Prelude.{◌≡◌, ◌+◌, ◌*◌, ◌≤◌, length, eqb};
 ghost use Rattle.words.specs.Bytes.{word_at};
 ghost use Rattle.table.specs.Table.{kind_at};

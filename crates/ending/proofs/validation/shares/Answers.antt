@@ -1,0 +1,6 @@
+-- The callees say it.
+use borrow.Author.Rules.{rules}
+use Rattle.ending.proofs.validation.shares.Goals as goal
+
+pub returns : goal.returns
+returns c = rw (c.is_empty.ensures, c.common.ensures, c.place.ensures)
