@@ -1,4 +1,6 @@
 // What is answered to a request: checks 4 to 9 in their order, then the locks or the end's validation. The board is only read.
+#![tactic(auto)]
+
 ghost use Rattle.std.specs.Prelude.{◌≡◌, ◌<◌};
 ghost use Rattle.wire.specs.Checks.{first_failing};
 ghost use Rattle.wire.specs.Requests.{desk_of};

@@ -1,4 +1,6 @@
 // A whole run's refusals, in their order.
+#![tactic(auto)]
+
 ghost use Rattle.std.specs.Prelude.{◌≡◌, pos, neg_ℤ};
 ghost use Rattle.lent.specs.Refusals.{refusal};
 

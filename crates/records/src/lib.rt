@@ -1,4 +1,6 @@
 // A commit's records in the journal: one of 8 bytes for each item written, ascending, and then the closing record.
+#![tactic(auto)]
+
 ghost use Rattle.std.specs.Prelude.{◌≡◌, ◌+◌, ◌≤◌, ◌<◌, length};
 ghost use Rattle.pieces.specs.Pieces.{in_one};
 ghost use Rattle.records.specs.Records.{room, record_of, size_of, item_record, records_of, over};
