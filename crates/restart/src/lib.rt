@@ -1,4 +1,6 @@
 // A restart: an opening table and the journal that a hub left, cut or damaged anywhere, to the table with the values after the last whole commit.
+#![tactic(auto)]
+
 mod reading;
 
 ghost use Rattle.std.specs.Prelude.{◌≡◌, length};

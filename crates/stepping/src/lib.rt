@@ -1,4 +1,6 @@
 // One request on a board: `answer` decides and changes nothing; `follow` changes and decides nothing.
+#![tactic(auto)]
+
 pub mod following;
 
 ghost use Rattle.std.specs.Prelude.{◌≡◌};

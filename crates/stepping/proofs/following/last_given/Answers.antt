@@ -1,0 +1,16 @@
+-- By the one test.
+-- the one that the test picks
+use Rattle.counters.specs.declared.Age.{Age}
+use borrow.Author.Rules.{rules}
+use mathlib.Core.Bool.{Bool, cond}
+use mathlib.Core.Path.{sym, ap, ◌∙◌}
+use Rattle.stepping.proofs.following.last_given.Goals as goal
+
+abbrev picked : Age → Age → Bool → Age
+picked last age t = cond t age last
+
+pub returns-then-below : goal.returns-then-below
+returns-then-below c = let a = c.args in ap (picked a.last a.age) (sym c.if-below.true ∙ c.below.ensures)
+
+pub returns : goal.returns
+returns c = let a = c.args in ap (picked a.last a.age) (sym c.if-below.false ∙ c.below.ensures)

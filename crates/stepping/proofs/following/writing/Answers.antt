@@ -1,0 +1,6 @@
+-- The callees say it.
+use borrow.Author.Rules.{rules}
+use Rattle.stepping.proofs.following.writing.Goals as goal
+
+pub returns : goal.returns
+returns c = rw (c.without-after.ensures, c.with-after.ensures)
