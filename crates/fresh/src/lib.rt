@@ -1,4 +1,6 @@
 // A fresh board with an empty journal.
+#![tactic(auto)]
+
 ghost use Rattle.std.specs.Prelude.{◌≡◌, false};
 ghost use Rattle.table.specs.Table.{wrong};
 ghost use Rattle.journal.specs.Journal.{fresh, cleared};

@@ -1,9 +1,7 @@
 -- The room for a commit's records.
 use Prim.Native.Nat.{ℕ, ◌≤◌, ◌<◌}
 use mathlib.Core.Path.{◌≡◌, refl, ap}
-use mathlib.Core.List.{List, [], ◌∷◌}
-use types.Run.{OneOf, miss}
-use denote.Enum.Declared.{tag_of}
+use mathlib.Core.List.{[]}
 use borrow.Author.Tests.{ltb-true, ltb-false}
 use lib.Dec.{ltb}
 use lib.ListN.{length}
@@ -11,7 +9,6 @@ use Rattle.items.proofs.Tests.{by_test, by_cond, clash}
 use Rattle.counters.specs.declared.Number.{Number}
 use Rattle.wire.specs.declared.Answer.{Answer}
 use Rattle.wire.specs.declared.Answer.TheVariants.{Refused, Opened, Value, Stored, Wait, Committed, Abandoned, Aborted}
-use Rattle.wire.specs.contracts.Answer as N
 use Rattle.desks.specs.Desks.{copy_of}
 use Rattle.desks.specs.declared.Desk.{Desk}
 use Rattle.records.specs.Records.{size_of}
@@ -44,17 +41,14 @@ module _ (need most : ℕ) where
   limited_twice Abandoned = refl
   limited_twice (Aborted w) = refl
 
--- an answer that is no commit, as the code tells it by its tag, stands and adds nothing
-abbrev others : List ℕ
-others = 0 ∷ 1 ∷ 2 ∷ 3 ∷ 4 ∷ 6 ∷ 7 ∷ []
-
-pub no_commit : (need most : ℕ) (k : Desk) (a : Answer) → OneOf others (tag_of N.the_type a) → (limited need most a ≡ a) × (added k a ≡ [])
+-- an answer that is no commit stands and adds nothing
+pub no_commit : (need most : ℕ) (k : Desk) (a : Answer) → ((n : Number) → a ≡ Committed n → ⊥) → (limited need most a ≡ a) × (added k a ≡ [])
 no_commit need most k (Refused n) h = (refl, refl)
 no_commit need most k (Opened a s) h = (refl, refl)
 no_commit need most k (Value i v) h = (refl, refl)
 no_commit need most k (Stored i) h = (refl, refl)
 no_commit need most k (Wait i e) h = (refl, refl)
-no_commit need most k (Committed n) h = absurd (miss others 5 tt h)
+no_commit need most k (Committed n) h = absurd (h n refl)
 no_commit need most k Abandoned h = (refl, refl)
 no_commit need most k (Aborted w) h = (refl, refl)
 

@@ -1,5 +1,7 @@
 // The board with a journal of its commits. The board's answer comes first; then the room for the records of a commit is tested; then the
 // board follows, and the records are put into the journal.
+#![tactic(auto)]
+
 ghost use Rattle.std.specs.Prelude.{◌≡◌, ◌+◌, ◌≤◌, length};
 ghost use Rattle.records.specs.Records.{size_of, room, over};
 ghost use Rattle.journal.specs.Journal.{limited, added, step, journal_after};
