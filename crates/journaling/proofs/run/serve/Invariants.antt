@@ -1,0 +1,32 @@
+-- The invariant: the board and the journal are those after the first k requests, their answers stand at the front, and the rest of the
+-- answers' buffer is as it was.
+use Prim.Native.Nat.{ℕ, ◌*◌, ◌/◌, ◌≤◌, ◌-◌}
+use Rattle.journal.proofs.Kept.{reached_call}
+use Rattle.journal.specs.Journal.{Ledger, step, next, reply, journal_after}
+use Rattle.journal.specs.Reached.{Reached}
+use Rattle.lent.proofs.Served.{encode-length, next-board, next-answer, answers-length}
+use Rattle.lent.specs.Served.{twelve_each, served}
+use Rattle.pieces.proofs.Buffers.{turn}
+use Rattle.pieces.proofs.Eights.{eight_at, part_bytes}
+use Rattle.pieces.specs.Pieces.{eights_of}
+use Rattle.runs.specs.Runs.{after}
+use Rattle.wire.specs.Answers.{encode}
+use Rattle.words.specs.Bytes.{byte}
+use borrow.Author.Rules.{rules}
+use lib.ListN.{length, drop}
+use mathlib.Core.List.{List, ◌++◌}
+use mathlib.Core.Path.{◌≡◌, refl, sym, ap, ◌∙◌}
+use native.Mathlib.Omega.{arith}
+use Rattle.journaling.proofs.run.serve.Given as goal
+
+abbrev pub invariant-loop-k : goal.invariant-loop-k
+invariant-loop-k l = let start : Ledger = record { kept = l.initial.last.board; journal = l.initial.journal } in
+    (l.k ≤ l.count)
+    × (record { kept = l.last.board; journal = l.journal } ≡ after next start (eights_of l.requests l.k))
+    × (l.answers ≡ served next reply start (eights_of l.requests l.k) ++ drop (12 * l.k) l.initial.answers)
+    × (length l.answers ≡ length l.initial.answers)
+    × (length l.journal ≡ length l.initial.journal)
+    × Reached l.last.board
+
+abbrev pub decreases-loop-k : goal.decreases-loop-k
+decreases-loop-k l = l.count - l.k
