@@ -1,4 +1,6 @@
 // The hub with a journal of its commits: a whole run, one request at a time over a board that a host keeps, and a restart from the journal.
+#![tactic(auto)]
+
 ghost use Rattle.std.specs.Prelude.{◌≡◌, length};
 ghost use Rattle.journal.specs.Journal.{journal_after};
 ghost use Rattle.journal.specs.Reached.{Reached};
@@ -14,8 +16,7 @@ use lent::{minus, refusal};
 use restart::restart;
 
 // A whole run with a journal: as hub_run, and each commit's records stand in the journal. A refused run leaves the journal as it is.
-#[unsafe(no_mangle)]
-pub extern "C" fn hub_run_journal(
+pub fn hub_run_journal(
     table: &[u8],
     requests: &[u8],
     answers: &mut [u8],
@@ -32,8 +33,7 @@ pub extern "C" fn hub_run_journal(
 }
 
 // A fresh board of the table with an empty journal, and 0; of a wrong table -10, and both stay as they are.
-#[unsafe(no_mangle)]
-pub extern "C" fn hub_open_journal(board: &mut Journaled, table: &[u8], journal: &mut [u8]) -> i64
+pub fn hub_open_journal(board: &mut Journaled, table: &[u8], journal: &mut [u8]) -> i64
     ensures { (result ≡ (opened_by board.old table.now).code) × (board.new ≡ (opened_by board.old table.now).board) × (journal.new ≡ journal_opened table.now journal.old) }
 {
     let o = open(*board, table, journal);
@@ -42,8 +42,7 @@ pub extern "C" fn hub_open_journal(board: &mut Journaled, table: &[u8], journal:
 }
 
 // One request of any 8 bytes, on a board that an opening and such calls have left, over any journal.
-#[unsafe(no_mangle)]
-pub extern "C" fn hub_step_journal(
+pub fn hub_step_journal(
     board: &mut Journaled,
     request: &[u8; 8],
     answer: &mut [u8; 12],
@@ -54,12 +53,12 @@ pub extern "C" fn hub_step_journal(
 {
     let t = tell(*board, *request, journal);
     *board = t.board;
-    *answer = t.bytes;
+    let bytes = t.bytes;
+    *answer = bytes;
 }
 
 // How many commits of the journal are whole, and the table with the values after them; of a wrong table -10, and it stays as it is.
-#[unsafe(no_mangle)]
-pub extern "C" fn hub_restart(table: &mut [u8], journal: &[u8]) -> i64
+pub fn hub_restart(table: &mut [u8], journal: &[u8]) -> i64
     ensures { Restarted.told result table.new ≡ restarted table.old journal.now }
 {
     restart(table, journal)
