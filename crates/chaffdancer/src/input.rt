@@ -1,32 +1,47 @@
 // Standard input of any length.
-ghost use Rattle.std.specs.Prelude.{◌<◌, ◌≤◌};
+ghost use Rattle.std.specs.Prelude.{◌<◌, ◌≤◌, IfOk, length};
 
-use libc::STDIN_FILENO;
+use std::io::{self, Read};
 
 // The table, one request more than a run takes, and 7 bytes: what comes after those changes nothing but the remainder by 8.
 pub const MOST: usize = 33807;
 
-// One more piece of the input, and how long it was.
-fn piece() -> usize
-    ensures { result ≤ 65536 }
+// Reads until the buffer is full or the input ends: how many bytes stand at its front.
+pub fn read_full(reader: &mut impl Read, buffer: &mut [u8]) -> io::Result<usize>
+    ensures { IfOk result (λ n. n ≤ length buffer.new) }
 {
-    let mut buffer = io::large_buffer();
-    io::read_full(STDIN_FILENO, &mut buffer)
+    let mut done = 0;
+    while done < buffer.len() {
+        let n = reader.read(&mut buffer[done..])?;
+        if n == 0 {
+            return Ok(done);
+        }
+        done += n;
+    }
+    Ok(done)
+}
+
+// One more piece of the input, and how long it was.
+fn piece(reader: &mut impl Read) -> io::Result<usize>
+    ensures { IfOk result (λ n. n ≤ 65536) }
+{
+    let mut buffer = [0u8; 65536];
+    read_full(reader, &mut buffer)
 }
 
 // Reads the rest of the input and returns the remainder of its length by 8. Nothing says that an input ends, so the turns are counted.
-pub fn rest() -> usize
-    ensures { result < 8 }
+pub fn rest(reader: &mut impl Read) -> io::Result<usize>
+    ensures { IfOk result (λ n. n < 8) }
 {
     let mut sum: usize = 0;
     let mut turns = u64::MAX;
     while turns > 0 {
-        let n = piece();
+        let n = piece(reader)?;
         if n == 0 {
-            return sum;
+            return Ok(sum);
         }
         sum = (sum + n) % 8;
         turns -= 1;
     }
-    sum
+    Ok(sum)
 }
