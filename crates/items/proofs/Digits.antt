@@ -1,6 +1,6 @@
 -- The binary digits of a number, lowest first, and what the bit operations do to them.
 use mathlib.Core.Path.{◌≡◌, refl, ap, ap₂, ◌∙◌, sym, fun_ext}
-use mathlib.Core.Bool.{Bool, true, false, ◌&&◌, ◌||◌, not, true≢false, false≢true}
+use mathlib.Core.Bool.{Bool, false, ◌&&◌, ◌||◌, not, true≢false, false≢true}
 use Prim.Native.Nat.{ℕ, zero, suc, ◌+◌, ◌*◌, ◌/◌, ◌%◌, ◌^◌, ◌<◌, min, max}
 use native.Mathlib.Nat.{zero-lt-suc, div-one, div-div-eq-div-mul, pow-succ', mod-lt, div-add-mod', zero-div, one-mul}
 use native.Mathlib.Numerals.{add-one}

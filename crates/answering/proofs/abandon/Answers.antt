@@ -1,7 +1,5 @@
 -- Each way out is a law of Decided.
 use Rattle.board.proofs.Decided.{abandon_none, abandon-granted}
-use borrow.Author.Rules.{rules}
-use borrow.Author.Tests.{not-true, not-false}
 use mathlib.Core.Path.{sym, ◌∙◌}
 use Rattle.answering.proofs.abandon.Goals as goal
 

@@ -1,6 +1,5 @@
 -- A malformed request is refused by its number; any other is answered.
 use Rattle.board.specs.Rules.{answer}
-use borrow.Author.Rules.{rules}
 use Rattle.answering.proofs.answer.Goals as goal
 
 pub answered-requires : goal.answered-requires

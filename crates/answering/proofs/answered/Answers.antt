@@ -1,5 +1,4 @@
 -- By the kind of the request: each callee says it.
-use borrow.Author.Rules.{rules}
 use Rattle.answering.proofs.answered.Goals as goal
 
 pub returns-in-Begin : goal.returns-in-Begin

@@ -1,6 +1,5 @@
 -- Each way out is a law of Decided. The refusals come first, then a kept age and a new one.
 use Rattle.board.proofs.Decided.{begin_open, begin_kept, begin_late, begin_new}
-use borrow.Author.Rules.{rules}
 use mathlib.Core.Path.{sym, ◌∙◌}
 use native.Mathlib.Omega.{arith}
 use Rattle.answering.proofs.begin.Goals as goal

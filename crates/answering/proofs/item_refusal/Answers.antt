@@ -1,6 +1,5 @@
 -- By the two tests.
-use borrow.Author.Rules.{rules}
-use borrow.Author.Tests.{le-ltb, lt-ltb, not-true, not-false}
+use borrow.Author.Tests.{le-ltb, lt-ltb}
 use Rattle.answering.proofs.item_refusal.Goals as goal
 
 pub returns-then-not-is_open : goal.returns-then-not-is_open

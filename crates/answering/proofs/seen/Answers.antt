@@ -1,5 +1,4 @@
 -- By the set of items written.
-use borrow.Author.Rules.{rules}
 use Rattle.answering.proofs.seen.Goals as goal
 
 pub returns-then-has : goal.returns-then-has

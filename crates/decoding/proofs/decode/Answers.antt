@@ -5,7 +5,6 @@ use Rattle.wire.proofs.Forms.{kind_wrong, desk_wrong, field_wrong, all_right}
 use Rattle.wire.specs.Requests.{request_of, unused_zero}
 use Rattle.wire.specs.declared.Decoded.TheVariants.{Asked}
 use Rattle.words.specs.Bytes.{byte}
-use borrow.Author.Rules.{rules}
 use borrow.Author.Tests.{ne_eqb, le-ltb, lt-ltb}
 use lib.Dec.{eqb, ltb}
 use mathlib.Core.Bool.{Bool, false, ◌||◌}

@@ -1,5 +1,4 @@
 -- The callee says it.
-use borrow.Author.Rules.{rules}
 use Rattle.desks.proofs.idle.Goals as goal
 
 pub returns : goal.returns

@@ -5,7 +5,6 @@ use Rattle.wire.specs.Answers.{fields, record_of, encode}
 use Rattle.wire.specs.declared.Answer.TheVariants.{Aborted}
 use Rattle.wire.specs.declared.Answer.{Answer}
 use Rattle.words.specs.Bytes.{byte}
-use borrow.Author.Rules.{rules}
 use mathlib.Core.List.{List}
 use mathlib.Core.Path.{◌≡◌, sym, ap, ◌∙◌}
 use Rattle.encoding.proofs.encode.Goals as goal

@@ -9,7 +9,6 @@ use Rattle.board.specs.declared.Board.{Board}
 use Rattle.desks.specs.Desks.{is_open}
 use Rattle.items.proofs.Laws.{lowest_le}
 use borrow.Author.Rules.{rules}
-use borrow.Author.Tests.{not-true, not-false}
 use mathlib.Core.Bool.{true}
 use mathlib.Core.Path.{◌≡◌, sym, ◌∙◌}
 use native.Mathlib.Omega.{arith}

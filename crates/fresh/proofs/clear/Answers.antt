@@ -1,8 +1,7 @@
 -- The invariant: the first i bytes are zero, and all else is as it was.
-use Prim.Native.Nat.{ℕ, zero, suc, ◌+◌, ◌≤◌, ◌<◌, ◌-◌}
+use Prim.Native.Nat.{ℕ, zero, suc, ◌+◌, ◌<◌}
 use Rattle.records.proofs.Sizes.{room_within}
 use Rattle.records.specs.Records.{room}
-use borrow.Author.Rules.{rules}
 use lib.ListN.{length, drop, get_or, set, replicate, length-set, length-replicate}
 use lib.Seq.{drop-cons, set_at}
 use mathlib.Core.List.{List, ◌∷◌, ◌++◌}

@@ -1,6 +1,5 @@
 -- A right table is 1,024 bytes long; the callees say the rest.
 use Rattle.table.proofs.Rows.{right_long}
-use borrow.Author.Rules.{rules}
 use Rattle.fresh.proofs.fresh.Goals as goal
 
 pub opening-requires : goal.opening-requires

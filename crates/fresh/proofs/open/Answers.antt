@@ -1,6 +1,5 @@
 -- By the test of the table.
 use Rattle.fresh.specs.Fresh.{opened_by, journal_opened}
-use borrow.Author.Rules.{rules}
 use lib.IntN.{pos}
 use mathlib.Core.Path.{sym, ◌∙◌}
 use Rattle.fresh.proofs.open.Goals as goal

@@ -1,7 +1,6 @@
 -- By what `refusal` returns.
 use Rattle.lent.proofs.Refused.{refused_run, completed_run}
 use Rattle.serving.specs.Run.{told, outcome}
-use borrow.Author.Rules.{rules}
 use lib.IntN.{ℤ}
 use mathlib.Core.Path.{ap, sym, ◌∙◌}
 use mir.Facts.{to_z-of_z}

@@ -5,7 +5,6 @@ use Rattle.journal.proofs.Room.{no_commit}
 use Rattle.records.proofs.Sizes.{count_below_lem}
 use Rattle.records.specs.Records.{size_of}
 use Rattle.wire.specs.declared.Answer.TheVariants.{Committed}
-use borrow.Author.Rules.{rules}
 use borrow.Author.Tests.{lt-ltb, le-ltb}
 use mathlib.Core.Path.{◌≡◌, sym}
 use native.Mathlib.Omega.{arith}

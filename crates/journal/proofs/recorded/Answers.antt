@@ -4,7 +4,6 @@ use Rattle.journal.proofs.Room.{limited_room, no_commit}
 use Rattle.records.proofs.Appended.{over_none}
 use Rattle.records.proofs.Sizes.{room_within}
 use Rattle.records.specs.Records.{size_of, room}
-use borrow.Author.Rules.{rules}
 use lib.ListN.{length}
 use mathlib.Core.Path.{sym}
 use native.Mathlib.Omega.{arith}

@@ -1,6 +1,5 @@
 -- 0 less a small number is minus that number, and fits.
 use Prim.Native.Nat.{ℕ, zero, suc, ◌<◌}
-use borrow.Author.Rules.{rules}
 use lib.IntN.{ℤ, pos, neg_ℤ, ◌-ℤ◌, +ℤ_idl}
 use mathlib.Core.Path.{◌≡◌, ap, sym, ◌∙◌, subst}
 use mir.Facts.{to_z_pos, to_z-of_z}

@@ -1,9 +1,6 @@
 -- Each number by the tests that led to it.
 use Rattle.lent.proofs.Refused.{refuses_10, refuses_11, refuses_14, refuses_12, refuses_13, refuses_none}
-use Rattle.table.specs.Table.{wrong}
-use borrow.Author.Rules.{rules}
-use mathlib.Core.Bool.{false}
-use mathlib.Core.Path.{◌≡◌, sym, ◌∙◌}
+use mathlib.Core.Path.{sym, ◌∙◌}
 use native.Mathlib.Omega.{arith}
 use Rattle.lent.proofs.refusal.Goals as goal
 

@@ -1,5 +1,4 @@
 -- By what the desk has written, then by the kind of the request.
-use borrow.Author.Rules.{rules}
 use Rattle.locking.proofs.conflicts.Goals as goal
 
 pub returns-then-has : goal.returns-then-has

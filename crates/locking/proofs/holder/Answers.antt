@@ -1,11 +1,8 @@
 -- The loop's invariant: of the other desks below e, the eldest that conflicts is found. What is returned comes first, so that another desk put
 -- aside is named before anything else.
-use Prim.Native.Nat.{◌≤◌, ◌-◌}
 use Rattle.desks.proofs.Locking.{holder_others}
-use Rattle.desks.specs.Desks.{conflicts, desk_in}
-use Rattle.locking.proofs.Search.{FoundBelow, found_none, found_passed, found_older}
+use Rattle.locking.proofs.Search.{found_none, found_passed, found_older}
 use borrow.Author.Rules.{rules}
-use mathlib.Core.Logic.{⊎_elim}
 use mathlib.Core.Path.{◌≡◌, refl, sym, ◌∙◌}
 use native.Mathlib.Omega.{arith}
 use Rattle.locking.proofs.holder.Goals as goal
@@ -25,7 +22,7 @@ pub loop-e-preserved : goal.loop-e-preserved
 loop-e-preserved c = (
   omega arith,
   elim c.if-conflicts.branch [
-    then-conflicts w ↦ rw (w.found-is, w.older-found.ensures) (found_older _ _ _ _ c.loop-e.invariant.1 (sym c.conflicts.ensures ∙ w.if-conflicts.true) _ refl)
+    | then-conflicts w ↦ rw (w.found-is, w.older-found.ensures) (found_older _ _ _ _ c.loop-e.invariant.1 (sym c.conflicts.ensures ∙ w.if-conflicts.true) _ refl)
     | else-conflicts w ↦ rw w.found-is (found_passed _ _ _ _ c.loop-e.invariant.1 (sym c.conflicts.ensures ∙ w.if-conflicts.false))
   ],
 )

@@ -1,7 +1,6 @@
 -- Each way out is a law of Locking.
 use Rattle.desks.proofs.Locking.{locked_open, locked_free, locked_wait, locked_yield}
 use borrow.Author.Rules.{rules}
-use borrow.Author.Tests.{not-true, not-false}
 use mathlib.Core.Path.{sym, ◌∙◌}
 use native.Mathlib.Omega.{arith}
 use Rattle.locking.proofs.locked.Goals as goal

@@ -1,9 +1,7 @@
 -- By the two tests.
-use borrow.Author.Rules.{rules}
 use borrow.Author.Tests.{ne_eqb}
 use lib.Dec.{ltb}
 use mathlib.Core.Bool.{true, false, or-true}
-use mathlib.Core.Logic.{⊎_elim}
 use mathlib.Core.Path.{◌≡◌, sym, ◌∙◌}
 use Rattle.locking.proofs.older.Goals as goal
 use Rattle.locking.proofs.older.Goals.{then-found-eq16-via-then-found-eq16, then-found-eq16-via-else-found-eq16+then-below}
@@ -12,10 +10,10 @@ pub returns-then-found-eq16 : goal.returns-then-found-eq16
 returns-then-found-eq16 c =
     let a = c.args in
     elim c.then-found-eq16.branch [
-      then-found-eq16-via-then-found-eq16 w ↦ rw w.if-found-eq16.true
+      | then-found-eq16-via-then-found-eq16 w ↦ rw w.if-found-eq16.true
       | then-found-eq16-via-else-found-eq16+then-below w ↦
-        let older : ltb a.age.0 a.found.age.0 ≡ true = sym w.below.ensures ∙ w.if-below.true in
-        rw (older, or-true)
+          let older : ltb a.age.0 a.found.age.0 ≡ true = sym w.below.ensures ∙ w.if-below.true in
+          rw (older, or-true)
     ]
 
 pub returns : goal.returns

@@ -1,10 +1,5 @@
 -- The loop's invariant: the rows before i have given their numbers.
-use Prim.Native.Nat.{◌+◌, ◌*◌, ◌≤◌, ◌-◌}
 use Rattle.board.specs.Rules.{filled}
-use Rattle.words.specs.Bytes.{word_at}
-use borrow.Author.Rules.{rules}
-use lib.ListN.{replicate}
-use mathlib.Core.Bool.{true}
 use mathlib.Core.Path.{◌≡◌, refl}
 use native.Mathlib.Numerals.{add-one}
 use native.Mathlib.Omega.{arith}

@@ -2,12 +2,9 @@
 use Prim.Native.Nat.{◌+◌, ◌*◌, ◌≤◌, ◌-◌}
 use Rattle.board.specs.Rules.{filled}
 use Rattle.words.specs.Bytes.{word_at}
-use borrow.Author.Rules.{rules}
 use lib.ListN.{replicate}
 use mathlib.Core.Bool.{true}
-use mathlib.Core.Path.{◌≡◌, refl}
-use native.Mathlib.Numerals.{add-one}
-use native.Mathlib.Omega.{arith}
+use mathlib.Core.Path.{◌≡◌}
 use Rattle.opening.proofs.column.Given as goal
 
 abbrev pub invariant-loop-i : goal.invariant-loop-i

@@ -1,11 +1,6 @@
 -- The loop's invariant: the guarded items below i are gathered.
-use Prim.Native.Nat.{◌≤◌, ◌-◌}
 use Rattle.board.specs.Opening.{gathered}
-use Rattle.table.specs.Table.{kind_at}
-use borrow.Author.Rules.{rules}
 use borrow.Author.Tests.{ne_eqb}
-use lib.Dec.{eqb}
-use mathlib.Core.Logic.{⊎_elim}
 use mathlib.Core.Path.{◌≡◌, refl, ◌∙◌}
 use native.Mathlib.Numerals.{add-one}
 use native.Mathlib.Omega.{arith}
@@ -21,7 +16,7 @@ unfolding gathered
 loop-i-preserved c = (
   omega arith,
   elim c.if-table-i-eq1.branch [
-    then-table-i-eq1 w ↦ w.set-is ∙ w.with-set.ensures ∙ rw (add-one, gathered, w.if-table-i-eq1.true, c.loop-i.invariant.1)
+    | then-table-i-eq1 w ↦ w.set-is ∙ w.with-set.ensures ∙ rw (add-one, gathered, w.if-table-i-eq1.true, c.loop-i.invariant.1)
     | else-table-i-eq1 w ↦ w.set-is ∙ rw (add-one, gathered, ne_eqb _ 1 w.if-table-i-eq1.false, c.loop-i.invariant.1)
   ],
 )

@@ -2,13 +2,8 @@
 use Prim.Native.Nat.{◌≤◌, ◌-◌}
 use Rattle.board.specs.Opening.{gathered}
 use Rattle.table.specs.Table.{kind_at}
-use borrow.Author.Rules.{rules}
-use borrow.Author.Tests.{ne_eqb}
 use lib.Dec.{eqb}
-use mathlib.Core.Logic.{⊎_elim}
-use mathlib.Core.Path.{◌≡◌, refl, ◌∙◌}
-use native.Mathlib.Numerals.{add-one}
-use native.Mathlib.Omega.{arith}
+use mathlib.Core.Path.{◌≡◌}
 use Rattle.opening.proofs.guarded.Given as goal
 
 abbrev pub invariant-loop-i : goal.invariant-loop-i

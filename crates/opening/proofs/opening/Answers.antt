@@ -2,7 +2,6 @@
 use Rattle.board.specs.Opening.{opening}
 use Rattle.counters.specs.Counters.{no_age, no_number}
 use Rattle.items.specs.Items.{none}
-use borrow.Author.Rules.{rules}
 use lib.ListN.{replicate}
 use native.Mathlib.Nat.{add-zero}
 use Rattle.opening.proofs.opening.Goals as goal

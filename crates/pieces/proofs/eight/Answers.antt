@@ -1,7 +1,6 @@
 -- A part of 8 bytes is put over all of an array of 8.
 use Prim.Native.Nat.{ℕ, ◌+◌, ◌-◌}
 use Rattle.pieces.proofs.Buffers.{paste_all}
-use borrow.Author.Rules.{rules}
 use lib.ListN.{length, take, drop, replicate, length-take, length-drop}
 use lib.Seq.{paste}
 use mathlib.Core.Path.{◌≡◌, ap, ◌∙◌}

@@ -1,7 +1,6 @@
 -- The invariant: the first j bytes of the piece are in their places, and all else is as it was.
-use Prim.Native.Nat.{◌≤◌, ◌-◌}
 use lib.ListN.{length, length-set}
-use lib.Seq.{paste, paste-zero, paste-suc}
+use lib.Seq.{paste-zero, paste-suc}
 use mathlib.Core.Path.{◌≡◌, refl}
 use native.Mathlib.Numerals.{add-one}
 use native.Mathlib.Omega.{arith}

@@ -1,10 +1,8 @@
 -- The invariant: the first j bytes of the piece are in their places, and all else is as it was.
 use Prim.Native.Nat.{◌≤◌, ◌-◌}
-use lib.ListN.{length, length-set}
-use lib.Seq.{paste, paste-zero, paste-suc}
-use mathlib.Core.Path.{◌≡◌, refl}
-use native.Mathlib.Numerals.{add-one}
-use native.Mathlib.Omega.{arith}
+use lib.ListN.{length}
+use lib.Seq.{paste}
+use mathlib.Core.Path.{◌≡◌}
 use Rattle.pieces.proofs.put.Given as goal
 
 abbrev pub invariant-loop-j : goal.invariant-loop-j

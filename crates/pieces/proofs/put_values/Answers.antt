@@ -1,8 +1,7 @@
 -- The invariant: the first i values stand at the front, and the rest is as it was.
-use Prim.Native.Nat.{ℕ, ◌≤◌, ◌-◌, ◌*◌}
+use Prim.Native.Nat.{ℕ}
 use Rattle.pieces.proofs.Buffers.{turn, four_each_suc, four_each-take}
 use Rattle.pieces.specs.Pieces.{four_each}
-use borrow.Author.Rules.{rules}
 use lib.ListN.{length, take, drop}
 use lib.Seq.{take_all}
 use mathlib.Core.List.{List, ◌++◌}

@@ -1,13 +1,9 @@
 -- The invariant: the first i values stand at the front, and the rest is as it was.
-use Prim.Native.Nat.{ℕ, ◌≤◌, ◌-◌, ◌*◌}
-use Rattle.pieces.proofs.Buffers.{turn, four_each_suc, four_each-take}
+use Prim.Native.Nat.{◌≤◌, ◌-◌, ◌*◌}
 use Rattle.pieces.specs.Pieces.{four_each}
-use borrow.Author.Rules.{rules}
 use lib.ListN.{length, take, drop}
-use lib.Seq.{take_all}
-use mathlib.Core.List.{List, ◌++◌}
-use mathlib.Core.Path.{◌≡◌, refl, sym, ap, ◌∙◌}
-use native.Mathlib.Omega.{arith}
+use mathlib.Core.List.{◌++◌}
+use mathlib.Core.Path.{◌≡◌}
 use Rattle.pieces.proofs.put_values.Given as goal
 
 abbrev pub invariant-loop-i : goal.invariant-loop-i

@@ -1,12 +1,12 @@
 -- The invariant: the records of the items below i stand in their places, and all else is as it was.
-use Prim.Native.Nat.{ℕ, ◌+◌, ◌*◌, ◌/◌, ◌≤◌, ◌-◌}
+use Prim.Native.Nat.{ℕ, ◌+◌, ◌*◌, ◌/◌, ◌-◌}
 use Rattle.desks.specs.Desks.{copy_of}
 use Rattle.pieces.specs.Pieces.{in_one}
 use Rattle.records.proofs.Appended.{over_none, over_more}
 use Rattle.records.proofs.Sizes.{in_one-append, count_suc, items_suc, item_length, items_length, count_most, count_below_lem, entry_length}
 use Rattle.records.specs.Records.{count_below, record_of, item_record, item_records, over}
 use borrow.Author.Rules.{rules}
-use lib.ListN.{length, get_or}
+use lib.ListN.{length}
 use mathlib.Core.List.{List, [], ◌∷◌}
 use mathlib.Core.Path.{◌≡◌, refl, ap, sym, ◌∙◌}
 use native.Mathlib.Omega.{arith}

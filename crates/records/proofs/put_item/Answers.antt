@@ -1,8 +1,6 @@
 -- By the test of the item.
 use Rattle.items.specs.Items.{has}
 use Rattle.records.proofs.Appended.{over_none}
-use borrow.Author.Rules.{rules}
-use borrow.Author.Tests.{not-true, not-false}
 use lib.ListN.{length}
 use mathlib.Core.Bool.{true, false}
 use mathlib.Core.Path.{◌≡◌, ap, sym, ◌∙◌}

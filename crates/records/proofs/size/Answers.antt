@@ -1,8 +1,6 @@
 -- The invariant: the items below i are counted.
-use Prim.Native.Nat.{ℕ, ◌+◌, ◌*◌, ◌≤◌, ◌-◌}
+use Prim.Native.Nat.{ℕ, ◌+◌, ◌*◌}
 use Rattle.records.specs.Records.{count_below}
-use borrow.Author.Rules.{rules}
-use mathlib.Core.Logic.{⊎_elim}
 use mathlib.Core.Path.{◌≡◌, refl, ap}
 use native.Mathlib.Numerals.{add-one}
 use native.Mathlib.Omega.{arith}
@@ -18,7 +16,7 @@ unfolding count_below
 loop-i-preserved c = (
   omega arith,
   elim c.if-has.branch [
-    then-has w ↦ rw (add-one, count_below, ← c.has.ensures, w.if-has.true) (omega arith)
+    | then-has w ↦ rw (add-one, count_below, ← c.has.ensures, w.if-has.true) (omega arith)
     | else-has w ↦ rw (add-one, count_below, ← c.has.ensures, w.if-has.false) (omega arith)
   ],
   elim c.if-has.branch [ then-has w ↦ omega arith | else-has w ↦ omega arith ],

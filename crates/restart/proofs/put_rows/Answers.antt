@@ -1,9 +1,8 @@
 -- The invariant: the first i rows have their values, and all else is as it was.
-use Prim.Native.Nat.{◌+◌, ◌*◌, ◌≤◌, ◌-◌}
+use Prim.Native.Nat.{◌+◌, ◌*◌}
 use Rattle.records.specs.Records.{over}
 use Rattle.restart.proofs.Rewritten.{rewritten_suc}
 use Rattle.restart.specs.Restart.{rewritten}
-use borrow.Author.Rules.{rules}
 use lib.ListN.{length}
 use mathlib.Core.Path.{◌≡◌, refl, sym, ap, ◌∙◌}
 use native.Mathlib.Omega.{arith}

@@ -1,7 +1,6 @@
 -- Each way out is a law of Outcome.
 use Rattle.restart.proofs.Outcome.{refused, resumed}
 use Rattle.table.proofs.Rows.{right_long}
-use borrow.Author.Rules.{rules}
 use mathlib.Core.Path.{sym, ◌∙◌}
 use mir.Facts.{to_z_pos}
 use mir.Syntax.{w64}

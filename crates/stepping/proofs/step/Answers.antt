@@ -2,7 +2,6 @@
 use Rattle.board.proofs.Bounds.{desk_low, answer_item}
 use Rattle.board.proofs.Reached.{reached_sound, sound_counted}
 use Rattle.board.specs.Rules.{step}
-use borrow.Author.Rules.{rules}
 use Rattle.stepping.proofs.step.Goals as goal
 
 pub answer-answer-requires : goal.answer-answer-requires

@@ -1,6 +1,5 @@
 -- Each way out is a law of Rows.
 use Rattle.table.proofs.Rows.{below_floor, above_ceiling, no_kind, spare_13, spare_14, spare_15}
-use borrow.Author.Rules.{rules}
 use native.Mathlib.Omega.{arith}
 use Rattle.table.proofs.row_right.Goals as goal
 

@@ -1,14 +1,10 @@
 -- The loop's invariant: the rows before i are right.
 use Prim.Native.Nat.{◌-◌}
-use Rattle.items.proofs.First.{Passed, passed_none, passed_one}
-use Rattle.table.proofs.Rows.{wrong-length, wrong_row, wrong_none}
+use Rattle.items.proofs.First.{Passed}
 use Rattle.table.specs.Table.{row_right}
-use borrow.Author.Rules.{rules}
-use borrow.Author.Tests.{not-true, not-false}
 use lib.ListN.{length}
 use mathlib.Core.Bool.{not}
-use mathlib.Core.Path.{◌≡◌, sym, ◌∙◌}
-use native.Mathlib.Omega.{arith}
+use mathlib.Core.Path.{◌≡◌}
 use Rattle.table.proofs.wrong.Given as goal
 
 abbrev pub invariant-loop-i : goal.invariant-loop-i

@@ -1,9 +1,7 @@
 -- The loop's invariant: none of the first k numbers above the start shares an item.
-use Prim.Native.Nat.{◌+◌, ◌-◌}
 use Rattle.board.proofs.Validated.{stale_at, shares_at}
-use Rattle.board.specs.Rules.{shares}
 use Rattle.counters.specs.Counters.{later_number}
-use Rattle.items.proofs.First.{Passed, passed_none, passed_one, stopped, passed_all}
+use Rattle.items.proofs.First.{passed_none, passed_one, stopped, passed_all}
 use borrow.Author.Rules.{rules}
 use mathlib.Core.Path.{◌≡◌, ap, sym, ◌∙◌}
 use native.Mathlib.Omega.{arith}

@@ -1,5 +1,4 @@
 -- The callees say it.
-use borrow.Author.Rules.{rules}
 use Rattle.ending.proofs.validation.shares.Goals as goal
 
 pub returns : goal.returns

@@ -1,6 +1,5 @@
 -- The shift and the remainder are the definition's own.
 use Rattle.items.specs.Items.{has}
-use borrow.Author.Rules.{rules}
 use mathlib.Core.Path.{refl}
 use Rattle.items.proofs.Items.has.Goals as goal
 

@@ -10,7 +10,6 @@ use Rattle.pieces.specs.Pieces.{eights_in, four_each}
 use Rattle.runs.specs.Runs.{after}
 use Rattle.table.proofs.Rows.{right_long}
 use Rattle.words.specs.Bytes.{Bytes}
-use borrow.Author.Rules.{rules}
 use lib.IntN.{pos}
 use lib.ListN.{length, drop}
 use mathlib.Core.List.{◌++◌}

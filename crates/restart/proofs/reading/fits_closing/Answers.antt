@@ -1,7 +1,6 @@
 -- Each way out is a law of Fitting, handed what the tests before it left: `zeroed` is the place after the second test, `numbered` the one
 -- after the third.
 use Rattle.restart.proofs.Fitting.{no_closing, not_zero, not_closed, by_count}
-use borrow.Author.Rules.{rules}
 use native.Mathlib.Omega.{arith}
 use Rattle.restart.proofs.reading.fits_closing.Goals as goal
 

@@ -1,7 +1,6 @@
 -- Each way out is a law of Fitting, handed what the tests before it left: `below` is the place after the third test, `numbered` the one
 -- after the fourth.
 use Rattle.restart.proofs.Fitting.{no_item, not_next, not_below, not_numbered, under_floor, by_ceiling}
-use borrow.Author.Rules.{rules}
 use native.Mathlib.Omega.{arith}
 use Rattle.restart.proofs.reading.fits_item.Goals as goal
 

@@ -1,7 +1,6 @@
 -- Each way out is a law of Steps; an item that fits is below 64.
 use Rattle.restart.proofs.Fitting.{fitting}
 use Rattle.restart.proofs.Steps.{stays, takes, closes, halts}
-use borrow.Author.Rules.{rules}
 use mathlib.Core.Path.{sym, ◌∙◌}
 use native.Mathlib.Omega.{arith}
 use Rattle.restart.proofs.reading.read.Goals as goal

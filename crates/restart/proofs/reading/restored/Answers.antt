@@ -1,5 +1,5 @@
 -- The invariant: the reading is that of the first k records, and it has counted no more commits or items than records.
-use Prim.Native.Nat.{ℕ, ◌*◌, ◌≤◌, ◌-◌}
+use Prim.Native.Nat.{ℕ}
 use Rattle.board.specs.Opening.{opening}
 use Rattle.board.specs.declared.Board.{Board}
 use Rattle.pieces.specs.Pieces.{eights_of}
@@ -8,7 +8,6 @@ use Rattle.restart.proofs.Steps.{commits_most, items_most, one_more}
 use Rattle.restart.specs.Restart.{unread, read, restored}
 use Rattle.runs.specs.Runs.{after}
 use Rattle.table.proofs.Rows.{right_long}
-use borrow.Author.Rules.{rules}
 use lib.ListN.{length}
 use mathlib.Core.Path.{◌≡◌, sym, ap, ◌∙◌}
 use native.Mathlib.Omega.{arith}

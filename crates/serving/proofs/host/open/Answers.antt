@@ -1,7 +1,6 @@
 -- By the test of the table.
 use Rattle.serving.specs.Run.{opened_by}
 use Rattle.table.proofs.Rows.{right_long}
-use borrow.Author.Rules.{rules}
 use lib.IntN.{pos}
 use mathlib.Core.Path.{sym, ◌∙◌}
 use Rattle.serving.proofs.host.open.Goals as goal

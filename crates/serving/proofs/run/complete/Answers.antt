@@ -1,7 +1,6 @@
 -- Nothing was refused, so the board can be reached and the buffers have room; each holds what `serve` and `put_values` leave.
 use Prim.Native.Nat.{◌*◌, ◌/◌}
 use Rattle.board.proofs.Reached.{reached_opening}
-use Rattle.board.specs.Opening.{opening}
 use Rattle.board.specs.Rules.{next, reply}
 use Rattle.board.specs.declared.Board.{Board}
 use Rattle.lent.proofs.Refused.{accepted}
@@ -12,7 +11,6 @@ use Rattle.runs.specs.Runs.{after}
 use Rattle.serving.specs.Run.{told}
 use Rattle.table.proofs.Rows.{right_long}
 use Rattle.words.specs.Bytes.{Bytes}
-use borrow.Author.Rules.{rules}
 use lib.IntN.{pos}
 use lib.ListN.{length, drop}
 use mathlib.Core.List.{◌++◌}

@@ -1,7 +1,6 @@
 -- The invariant: the board is that after the first k requests, their answers stand at the front, and the rest of the buffer is as it was.
-use Prim.Native.Nat.{ℕ, ◌*◌, ◌/◌, ◌≤◌, ◌-◌}
+use Prim.Native.Nat.{ℕ, ◌*◌, ◌/◌}
 use Rattle.board.proofs.Reached.{reached_step}
-use Rattle.board.specs.Reached.{Reached}
 use Rattle.board.specs.Rules.{step, next, reply}
 use Rattle.board.specs.declared.Board.{Board}
 use Rattle.board.specs.declared.Stepped.{Stepped}
@@ -13,8 +12,7 @@ use Rattle.pieces.specs.Pieces.{eights_of}
 use Rattle.runs.specs.Runs.{after}
 use Rattle.wire.specs.Answers.{encode}
 use Rattle.words.specs.Bytes.{byte}
-use borrow.Author.Rules.{rules}
-use lib.ListN.{length, drop}
+use lib.ListN.{length}
 use mathlib.Core.List.{List, ◌++◌}
 use mathlib.Core.Path.{◌≡◌, refl, sym, ap, ◌∙◌}
 use native.Mathlib.Omega.{arith}

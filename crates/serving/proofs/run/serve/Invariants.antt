@@ -1,23 +1,13 @@
 -- The invariant: the board is that after the first k requests, their answers stand at the front, and the rest of the buffer is as it was.
-use Prim.Native.Nat.{ℕ, ◌*◌, ◌/◌, ◌≤◌, ◌-◌}
-use Rattle.board.proofs.Reached.{reached_step}
+use Prim.Native.Nat.{◌*◌, ◌≤◌, ◌-◌}
 use Rattle.board.specs.Reached.{Reached}
-use Rattle.board.specs.Rules.{step, next, reply}
-use Rattle.board.specs.declared.Board.{Board}
-use Rattle.board.specs.declared.Stepped.{Stepped}
-use Rattle.lent.proofs.Served.{encode-length, next-board, next-answer, answers-length}
-use Rattle.lent.specs.Served.{twelve_each, served}
-use Rattle.pieces.proofs.Buffers.{turn}
-use Rattle.pieces.proofs.Eights.{eight_at, part_bytes}
+use Rattle.board.specs.Rules.{next, reply}
+use Rattle.lent.specs.Served.{served}
 use Rattle.pieces.specs.Pieces.{eights_of}
 use Rattle.runs.specs.Runs.{after}
-use Rattle.wire.specs.Answers.{encode}
-use Rattle.words.specs.Bytes.{byte}
-use borrow.Author.Rules.{rules}
 use lib.ListN.{length, drop}
-use mathlib.Core.List.{List, ◌++◌}
-use mathlib.Core.Path.{◌≡◌, refl, sym, ap, ◌∙◌}
-use native.Mathlib.Omega.{arith}
+use mathlib.Core.List.{◌++◌}
+use mathlib.Core.Path.{◌≡◌}
 use Rattle.serving.proofs.run.serve.Given as goal
 
 abbrev pub invariant-loop-k : goal.invariant-loop-k

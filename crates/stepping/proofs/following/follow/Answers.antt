@@ -6,7 +6,6 @@ use Rattle.board.specs.declared.Board.{Board}
 use Rattle.desks.specs.Desks.{idle}
 use Rattle.desks.specs.declared.Desk.{Desk}
 use Rattle.wire.specs.Requests.{desk_of}
-use borrow.Author.Rules.{rules}
 use lib.ListN.{set}
 use mathlib.Core.Path.{ap, ◌∙◌}
 use Rattle.stepping.proofs.following.follow.Goals as goal

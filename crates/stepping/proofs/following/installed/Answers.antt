@@ -1,10 +1,5 @@
 -- The loop's invariant: the copies stand below i.
-use Prim.Native.Nat.{◌≤◌, ◌-◌}
 use Rattle.board.specs.Rules.{filled}
-use Rattle.items.specs.Items.{has}
-use borrow.Author.Rules.{rules}
-use lib.ListN.{get_or}
-use mathlib.Core.Logic.{⊎_elim}
 use mathlib.Core.Path.{◌≡◌, refl, ◌∙◌}
 use native.Mathlib.Numerals.{add-one}
 use native.Mathlib.Omega.{arith}
@@ -20,7 +15,7 @@ unfolding filled
 loop-i-preserved c = (
   omega arith,
   elim c.if-has.branch [
-    then-has w ↦ w.after-is ∙ rw (add-one, filled, ← c.has.ensures, w.if-has.true, c.loop-i.invariant.1)
+    | then-has w ↦ w.after-is ∙ rw (add-one, filled, ← c.has.ensures, w.if-has.true, c.loop-i.invariant.1)
     | else-has w ↦ w.after-is ∙ rw (add-one, filled, ← c.has.ensures, w.if-has.false, c.loop-i.invariant.1)
   ],
 )

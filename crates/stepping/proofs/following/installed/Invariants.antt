@@ -2,12 +2,8 @@
 use Prim.Native.Nat.{◌≤◌, ◌-◌}
 use Rattle.board.specs.Rules.{filled}
 use Rattle.items.specs.Items.{has}
-use borrow.Author.Rules.{rules}
 use lib.ListN.{get_or}
-use mathlib.Core.Logic.{⊎_elim}
-use mathlib.Core.Path.{◌≡◌, refl, ◌∙◌}
-use native.Mathlib.Numerals.{add-one}
-use native.Mathlib.Omega.{arith}
+use mathlib.Core.Path.{◌≡◌}
 use Rattle.stepping.proofs.following.installed.Given as goal
 
 abbrev pub invariant-loop-i : goal.invariant-loop-i

@@ -1,7 +1,6 @@
 -- By the one test.
 -- the one that the test picks
 use Rattle.counters.specs.declared.Age.{Age}
-use borrow.Author.Rules.{rules}
 use mathlib.Core.Bool.{Bool, cond}
 use mathlib.Core.Path.{sym, ap, ◌∙◌}
 use Rattle.stepping.proofs.following.last_given.Goals as goal

@@ -1,6 +1,4 @@
 -- By the kind of the item, then by what the desk has written.
-use borrow.Author.Rules.{rules}
-use borrow.Author.Tests.{not-true, not-false}
 use Rattle.stepping.proofs.following.reading.Goals as goal
 
 pub returns-then-not-guarded : goal.returns-then-not-guarded

@@ -1,5 +1,4 @@
 -- The callees say it.
-use borrow.Author.Rules.{rules}
 use Rattle.stepping.proofs.following.writing.Goals as goal
 
 pub returns : goal.returns
