@@ -49,7 +49,7 @@ def main():
             new = SPAN.sub(lambda m: turn(m[0]), old)
         else:
             # the lemma on a desk that is open stands beside the definition of that name
-            if path.endswith("board/proofs/Granted.antt"):
+            if path.endswith("board/proofs/Granted.antt") and "isOpen" in old:
                 old_names = re.compile(r"(?<![\w'-])is_open(?![\w'-])")
                 new = turn(old_names.sub("is_open_lem", old))
             else:

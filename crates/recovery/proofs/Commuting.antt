@@ -77,13 +77,13 @@ desk_kept b (Asked d r) (Asked e s) others t =
 
 -- ---- neither request is a begin or an end
 
-module _ (l : Ledger) (p q : List ℕ) (p-quiet : Quiet p) (q-quiet : Quiet q) where
+module _ (l : Ledger) (p q : List ℕ) (p_quiet : Quiet p) (q_quiet : Quiet q) where
   -- p after q
   board_both : next (next l q) p ≡ with_board l (Rules.next (Rules.next l.kept.board q) p)
-  board_both = ap (λ (m : Ledger). next m p) (next_then l q q-quiet) ∙ next_then (then l q) p p-quiet
+  board_both = ap (λ (m : Ledger). next m p) (next_then l q q_quiet) ∙ next_then (then l q) p p_quiet
 
   reply_both : reply (next l q) p ≡ Rules.reply (Rules.next l.kept.board q) p
-  reply_both = ap (λ (m : Ledger). reply m p) (next_then l q q-quiet) ∙ reply_then (then l q) p p-quiet
+  reply_both = ap (λ (m : Ledger). reply m p) (next_then l q q_quiet) ∙ reply_then (then l q) p p_quiet
 
 both_quiet :
     (l : Ledger) (p q : List ℕ) → Quiet p → Quiet q → Commute Rules.next Rules.reply l.kept.board p q → Commute next reply l p q

@@ -134,8 +134,8 @@ read_cut t bytes journal requests cut =
     let few : 8 * n ≤ length piece = omega (arith, room_within (length piece)) in
     let most : 8 * n ≤ room (length l.journal) = room_least (8 * n) (length l.journal) (omega (arith, room_most (length piece))) (omega arith) in
     let all : (k : ℕ) → 8 * k ≤ room (length l.journal) → 8 * k ≤ cut → k ≤ n = λ k a b.
-    let within-room : 8 * k ≤ room (length piece) = room_least (8 * k) (length piece) (omega (arith, a, room_most (length l.journal))) (cut_least cut j (8 * k) b (omega (arith, a, long, room_within (length l.journal)))) in
-    omega (arith, within-room) in
+    let within_room : 8 * k ≤ room (length piece) = room_least (8 * k) (length piece) (omega (arith, a, room_most (length l.journal))) (cut_least cut j (8 * k) b (omega (arith, a, long, room_within (length l.journal)))) in
+    omega (arith, within_room) in
     let tells = cut_run t bytes cut n (omega arith) requests l held (omega arith) most all in
     let same : eights_of piece n ≡ eights_of j n = same_front piece j (8 * n) n (take-take (8 * n) cut j (omega arith)) (omega arith) few (omega arith) in
     let whole = ap (after (read t) (unread (opening t).values)) same in

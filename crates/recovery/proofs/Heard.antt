@@ -40,17 +40,17 @@ heard_history h l [] = refl
 heard_history h l (q ∷ qs) =
     let rest = heard (next l q) qs in
     let from : History → Board → History = λ k b. history_from k rest (answers Rules.next Rules.reply b rest) in
-    let told-by : Answer → History = told h (decode q) in
+    let told_by : Answer → History = told h (decode q) in
     by_cond
     (λ (hs : List (List ℕ)).
-    history_from (told-by (reply l q)) qs (answers next reply (next l q) qs) ≡ history_from h hs (answers Rules.next Rules.reply l.kept.board hs))
+    history_from (told_by (reply l q)) qs (answers next reply (next l q) qs) ≡ history_from h hs (answers Rules.next Rules.reply l.kept.board hs))
     (lacks_room l q)
     (λ t.
-    heard_history (told-by (reply l q)) (next l q) qs
-    ∙ (λ i. from (told-by (reply_lacks l q t i)) (next_lacks l q t i).kept.board))
+    heard_history (told_by (reply l q)) (next l q) qs
+    ∙ (λ i. from (told_by (reply_lacks l q t i)) (next_lacks l q t i).kept.board))
     (λ f.
-    heard_history (told-by (reply l q)) (next l q) qs
-    ∙ (λ i. from (told-by (reply_roomy l q f i)) (board_roomy l q f i)))
+    heard_history (told_by (reply l q)) (next l q) qs
+    ∙ (λ i. from (told_by (reply_roomy l q f i)) (board_roomy l q f i)))
 
 pub replays : Replays
 replays t right j qs =

@@ -156,5 +156,5 @@ pub unchanged : Unchanged
 unchanged l q t =
     by_test (lacks_room l q) (next_lacks l q)
     (λ f.
-    let own-too : changes_nothing (own l q) ≡ true = rw (reply_roomy l q f) at t in
-    next_silent l q (no_commit (way (own l q)) own-too) ∙ ap (with_board l) (Done.unchanged l.kept.board q own-too))
+    let own_too : changes_nothing (own l q) ≡ true = rw (reply_roomy l q f) at t in
+    next_silent l q (no_commit (way (own l q)) own_too) ∙ ap (with_board l) (Done.unchanged l.kept.board q own_too))

@@ -58,13 +58,13 @@ fitting t at r e =
     let under = leb (byte r 1) 63 in
     let numbered = eqb (number_in r) (at.commits + 1) in
     let above_floor = leb (floor_at t (byte r 1)) (value_in r) in
-    let below-ceiling = leb (value_in r) (ceiling_at t (byte r 1)) in
-    let to-floor = and_left (placed && under && numbered && above_floor) below-ceiling e in
-    let to_number = and_left (placed && under && numbered) above_floor to-floor in
+    let below_ceiling = leb (value_in r) (ceiling_at t (byte r 1)) in
+    let to_floor = and_left (placed && under && numbered && above_floor) below_ceiling e in
+    let to_number = and_left (placed && under && numbered) above_floor to_floor in
     record {
       below = leb-true (byte r 1) 63 (and_right placed under (and_left (placed && under) numbered to_number));
-      floor = leb-true (floor_at t (byte r 1)) (value_in r) (and_right (placed && under && numbered) above_floor to-floor);
-      ceiling = leb-true (value_in r) (ceiling_at t (byte r 1)) (and_right (placed && under && numbered && above_floor) below-ceiling e);
+      floor = leb-true (floor_at t (byte r 1)) (value_in r) (and_right (placed && under && numbered) above_floor to_floor);
+      ceiling = leb-true (value_in r) (ceiling_at t (byte r 1)) (and_right (placed && under && numbered && above_floor) below_ceiling e);
     }
 
 -- ---- a closing record

@@ -14,8 +14,8 @@ use mathlib.Core.Path.{◌≡◌, ap, sym, ◌∙◌}
 use native.Mathlib.Omega.{arith}
 use Rattle.decoding.proofs.decode.Goals as goal
 
-known-kind : (q : List ℕ) → (byte q 0 ≡ 0 → ⊥) → byte q 0 ≤ 5 → (eqb (byte q 0) 0 || ltb 5 (byte q 0)) ≡ false
-known-kind q h e = or_both (eqb (byte q 0) 0) (ltb 5 (byte q 0)) (ne_eqb (byte q 0) 0 h) (le-ltb 5 (byte q 0) e)
+known_kind : (q : List ℕ) → (byte q 0 ≡ 0 → ⊥) → byte q 0 ≤ 5 → (eqb (byte q 0) 0 || ltb 5 (byte q 0)) ≡ false
+known_kind q h e = or_both (eqb (byte q 0) 0) (ltb 5 (byte q 0)) (ne_eqb (byte q 0) 0 h) (le-ltb 5 (byte q 0) e)
 
 abbrev zeros : List ℕ → ℕ → Bool
 zeros q = unused_zero (byte q 0) (byte q 2) (byte q 3)
@@ -28,12 +28,12 @@ returns-then-kind-eq0 c =
 pub returns-then-desk-gt15 : goal.returns-then-desk-gt15
 returns-then-desk-gt15 c =
     let q = c.args.bytes in
-    desk_wrong q (known-kind q c.if-kind-eq0.false c.if-kind-gt5.false) (omega arith)
+    desk_wrong q (known_kind q c.if-kind-eq0.false c.if-kind-gt5.false) (omega arith)
 
 pub returns-then-not-unused_zero : goal.returns-then-not-unused_zero
 returns-then-not-unused_zero c =
     let q = c.args.bytes in
-    field_wrong q (known-kind q c.if-kind-eq0.false c.if-kind-gt5.false) (omega arith)
+    field_wrong q (known_kind q c.if-kind-eq0.false c.if-kind-gt5.false) (omega arith)
     (sym (c.unused_zero.ensures ∙ ap (zeros q) c.number-value.ensures)
     ∙ c.if-not-unused_zero.true)
 
@@ -42,5 +42,5 @@ returns c =
     let q = c.args.bytes in
     let value = c.number-value.ensures in
     ap (Asked (byte q 1)) (c.request_of.ensures ∙ ap (request_of (byte q 0) (byte q 2)) value)
-    ∙ all_right q (known-kind q c.if-kind-eq0.false c.if-kind-gt5.false) (omega arith)
+    ∙ all_right q (known_kind q c.if-kind-eq0.false c.if-kind-gt5.false) (omega arith)
     (sym (c.unused_zero.ensures ∙ ap (zeros q) value) ∙ c.if-not-unused_zero.false)

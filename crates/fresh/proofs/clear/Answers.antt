@@ -10,16 +10,16 @@ use native.Mathlib.Numerals.{add-one}
 use native.Mathlib.Omega.{arith}
 use Rattle.fresh.proofs.clear.Goals as goal
 
-zero-last : (i : ℕ) (l : List ℕ) → replicate i 0 ++ 0 ∷ l ≡ replicate (suc i) 0 ++ l
-zero-last zero l = refl
-zero-last (suc i) l = ap (λ (r : List ℕ). 0 ∷ r) (zero-last i l)
+zero_last : (i : ℕ) (l : List ℕ) → replicate i 0 ++ 0 ∷ l ≡ replicate (suc i) 0 ++ l
+zero_last zero l = refl
+zero_last (suc i) l = ap (λ (r : List ℕ). 0 ∷ r) (zero_last i l)
 
 -- one more byte
 one_more : (j : List ℕ) (i : ℕ) → i < length j → set (replicate i 0 ++ drop i j) i 0 ≡ replicate (i + 1) 0 ++ drop (i + 1) j
 one_more j i h =
     ap (λ (d : List ℕ). set (replicate i 0 ++ d) i 0) (drop-cons j i 0 h)
     ∙ set_at (replicate i 0) (get_or j i 0) (drop (suc i) j) 0 i (length-replicate i 0)
-    ∙ rw add-one (zero-last i (drop (suc i) j))
+    ∙ rw add-one (zero_last i (drop (suc i) j))
 
 pub loop-i-init : goal.loop-i-init
 loop-i-init c = (omega arith, refl, refl)
