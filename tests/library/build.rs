@@ -23,7 +23,7 @@ fn link(folder: &Path, name: &str, variable: &str) {
     println!("cargo:rerun-if-changed={}", archive.display());
     if !archive.is_file() {
         eprintln!("The archive {} is missing.", archive.display());
-        eprintln!("Build it first with `rt staticlib {name}`, or set");
+        eprintln!("Build it first with host/archives, or set");
         eprintln!("CHAFFDANCER_LIBRARY to the folder that holds it.");
         std::process::exit(1);
     }
