@@ -21,6 +21,7 @@ fn request_of(kind: u8, item: u8, value: u32) -> Request
 }
 
 // The fields that the kind does not use are zero: the item but of a read or a write, the value but of a write, byte 3 always.
+#[tactic(auto, unfolding(wire::specs::Requests::unused_zero))]
 fn unused_zero(kind: u8, item: u8, spare: u8, value: u32) -> bool
     ensures { result ≡ unused_zero kind item spare value }
 {

@@ -28,6 +28,7 @@ fn column(table: &[u8], at: usize) -> [u32; 64]
 }
 
 // The items whose kind is 1.
+#[tactic(auto, unfolding(board::specs::Opening::gathered))]
 fn guarded(table: &[u8]) -> Items
     requires { length table.now ≡ 1024 }
     ensures { result ≡ gathered (λ i. eqb (kind_at table.now i) 1) 64 }

@@ -15,8 +15,5 @@ fits : (n : ℕ) → n < 256 → SFits w64 (neg_ℤ (pos n))
 fits zero h = record { sfits = omega arith }
 fits (suc n) h = record { sfits = omega arith }
 
-pub overflow_sub-result : goal.overflow_sub-result
-overflow_sub-result c = subst (SFits w64) (sym (less c.args.n (omega arith))) (fits c.args.n (omega arith))
-
 pub returns : goal.returns
 returns c = ap (λ (z : ℤ). to_z w64 (of_z w64 z)) (less c.args.n (omega arith)) ∙ to_z-of_z (fits c.args.n (omega arith))
