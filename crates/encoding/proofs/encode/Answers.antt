@@ -1,5 +1,4 @@
 -- By the answer: each arm's record is what `fields` gives for it.
--- the answer is known to be x, and what is given is the record of x
 use Prim.Native.Nat.{ℕ}
 use Rattle.wire.specs.Answers.{fields, record_of, encode}
 use Rattle.wire.specs.declared.Answer.TheVariants.{Aborted}
@@ -9,6 +8,7 @@ use mathlib.Core.List.{List}
 use mathlib.Core.Path.{◌≡◌, sym, ap, ◌∙◌}
 use Rattle.encoding.proofs.encode.Goals as goal
 
+-- the answer is known to be x, and what is given is the record of x
 arm : (desk : ℕ) {a x : Answer} → a ≡ x → {r : List ℕ} → r ≡ (let f = fields x in record_of (byte f 0) desk (byte f 1) (byte f 2) (byte f 3) (byte f 4)) → r ≡ encode desk a
 unfolding encode
 arm desk known e = e ∙ sym (ap (encode desk) known)

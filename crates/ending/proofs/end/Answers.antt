@@ -1,5 +1,4 @@
 -- Each way out is a law of Decided and Validated; an open transaction has room for the next number.
--- the number of a board with an open transaction is below 2,000
 use Prim.Native.Nat.{ℕ, ◌<◌}
 use Rattle.board.proofs.Decided.{end_none, end-granted}
 use Rattle.board.proofs.Validated.{ended-unread, ended_old, ended-fresh, ended_stale}
@@ -14,6 +13,7 @@ use mathlib.Core.Path.{◌≡◌, sym, ◌∙◌}
 use native.Mathlib.Omega.{arith}
 use Rattle.ending.proofs.end.Goals as goal
 
+-- the number of a board with an open transaction is below 2,000
 room : {b : Board} {d : ℕ} → Counted b → d < 16 → is_open (desk_at b d) ≡ true → b.number.0 < 2000
 room {b} {d} counted low busy = omega (arith, counted.ahead d low busy, counted.limit)
 

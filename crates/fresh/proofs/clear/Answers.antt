@@ -1,4 +1,4 @@
--- The invariant: the first i bytes are zero, and all else is as it was.
+-- The loop keeps its invariant, and at its end that is what is promised.
 use Prim.Native.Nat.{ℕ, zero, suc, ◌+◌, ◌<◌}
 use Rattle.records.proofs.Sizes.{room_within}
 use Rattle.records.specs.Records.{room}

@@ -1,5 +1,4 @@
--- The loop's invariant: of the other desks below e, the eldest that conflicts is found. What is returned comes first, so that another desk put
--- aside is named before anything else.
+-- The loop keeps its invariant. What is returned comes first, so that another desk put aside is named before anything else.
 use Rattle.desks.proofs.Locking.{holder_others}
 use Rattle.locking.proofs.Search.{found_none, found_passed, found_older}
 use borrow.Author.Rules.{rules}

@@ -1,5 +1,4 @@
--- The loop's invariant: of the other desks below e, the eldest that conflicts is found. What is returned comes first, so that another desk put
--- aside is named before anything else.
+-- The loop's invariant: of the other desks below e, the eldest that conflicts is found.
 use Prim.Native.Nat.{◌≤◌, ◌-◌}
 use Rattle.desks.specs.Desks.{conflicts, desk_in}
 use Rattle.locking.proofs.Search.{FoundBelow}

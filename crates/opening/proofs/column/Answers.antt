@@ -1,4 +1,4 @@
--- The loop's invariant: the rows before i have given their numbers.
+-- The loop keeps its invariant, and at its end that is what is promised.
 use Rattle.board.specs.Rules.{filled}
 use mathlib.Core.Path.{◌≡◌, refl}
 use native.Mathlib.Numerals.{add-one}

@@ -1,4 +1,4 @@
--- The invariant: the first j bytes of the piece are in their places, and all else is as it was.
+-- The loop keeps its invariant, and at its end that is what is promised.
 use lib.ListN.{length, length-set}
 use lib.Seq.{paste-zero, paste-suc}
 use mathlib.Core.Path.{◌≡◌, refl}

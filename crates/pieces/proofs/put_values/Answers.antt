@@ -1,4 +1,4 @@
--- The invariant: the first i values stand at the front, and the rest is as it was.
+-- The loop keeps its invariant, and at its end that is what is promised.
 use Prim.Native.Nat.{ℕ}
 use Rattle.pieces.proofs.Buffers.{turn, four_each_suc, four_each-take}
 use Rattle.pieces.specs.Pieces.{four_each}

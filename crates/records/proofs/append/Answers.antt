@@ -1,4 +1,4 @@
--- The invariant: the records of the items below i stand in their places, and all else is as it was.
+-- The loop keeps its invariant, and at its end that is what is promised.
 use Prim.Native.Nat.{ℕ, ◌+◌, ◌*◌, ◌/◌, ◌-◌}
 use Rattle.desks.specs.Desks.{copy_of}
 use Rattle.pieces.specs.Pieces.{in_one}

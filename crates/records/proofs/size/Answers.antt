@@ -1,4 +1,4 @@
--- The invariant: the items below i are counted.
+-- The loop keeps its invariant, and at its end that is what is promised.
 use Prim.Native.Nat.{ℕ, ◌+◌, ◌*◌}
 use Rattle.records.specs.Records.{count_below}
 use mathlib.Core.Path.{◌≡◌, refl, ap}

@@ -1,4 +1,4 @@
--- The invariant: the first i rows have their values, and all else is as it was.
+-- The loop keeps its invariant, and at its end that is what is promised.
 use Prim.Native.Nat.{◌+◌, ◌*◌}
 use Rattle.records.specs.Records.{over}
 use Rattle.restart.proofs.Rewritten.{rewritten_suc}

@@ -1,4 +1,4 @@
--- The loop's invariant: the rows before i are right.
+-- The loop keeps its invariant, and at its end that is what is promised.
 use Rattle.items.proofs.First.{passed_none, passed_one}
 use Rattle.table.proofs.Rows.{wrong-length, wrong_row, wrong_none}
 use borrow.Author.Rules.{rules}

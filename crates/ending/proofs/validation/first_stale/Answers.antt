@@ -1,4 +1,4 @@
--- The loop's invariant: none of the first k numbers above the start shares an item.
+-- The loop keeps its invariant, and at its end that is what is promised.
 use Rattle.board.proofs.Validated.{stale_at, shares_at}
 use Rattle.counters.specs.Counters.{later_number}
 use Rattle.items.proofs.First.{passed_none, passed_one, stopped, passed_all}

@@ -1,5 +1,4 @@
--- The invariant: the board and the journal are those after the first k requests, their answers stand at the front, and the rest of the
--- answers' buffer is as it was.
+-- The loop keeps its invariant, and at its end that is what is promised.
 use Prim.Native.Nat.{ℕ, ◌*◌, ◌/◌}
 use Rattle.journal.proofs.Kept.{reached_call}
 use Rattle.journal.specs.Journal.{Ledger, step, next, reply, journal_after}

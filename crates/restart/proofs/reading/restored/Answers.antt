@@ -1,4 +1,4 @@
--- The invariant: the reading is that of the first k records, and it has counted no more commits or items than records.
+-- The loop keeps its invariant, and at its end that is what is promised.
 use Prim.Native.Nat.{ℕ}
 use Rattle.board.specs.Opening.{opening}
 use Rattle.board.specs.declared.Board.{Board}

@@ -1,4 +1,4 @@
--- The invariant: the board is that after the first k requests, their answers stand at the front, and the rest of the buffer is as it was.
+-- The loop keeps its invariant, and at its end that is what is promised.
 use Prim.Native.Nat.{ℕ, ◌*◌, ◌/◌}
 use Rattle.board.proofs.Reached.{reached_step}
 use Rattle.board.specs.Rules.{step, next, reply}

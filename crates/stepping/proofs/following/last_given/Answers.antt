@@ -1,10 +1,10 @@
 -- By the one test.
--- the one that the test picks
 use Rattle.counters.specs.declared.Age.{Age}
 use mathlib.Core.Bool.{Bool, cond}
 use mathlib.Core.Path.{sym, ap, ◌∙◌}
 use Rattle.stepping.proofs.following.last_given.Goals as goal
 
+-- the one that the test picks
 abbrev picked : Age → Age → Bool → Age
 picked last age t = cond t age last
 
