@@ -105,6 +105,7 @@ check_store() {
     # Each on its own core as far as there are two: the slow one beside the others.
     "$work/damage" "$quick" "${CHAFFDANCER_STRIDE:-16}" >"$work/damage.told" 2>&1 &
     local slow=$!
+    [ -x target/bin/chaffdancer ] || check "the program is built" tests/program/build
     count_told "test of attacks" python3 tests/host/attacks.py "$plain" target/bin/chaffdancer "$quick" 5
     count_told "test of attacks, sanitized" python3 tests/host/attacks.py "$sanitized" target/bin/chaffdancer "$quick" 211
     count_told "test of rooms" python3 tests/host/rooms.py "$plain" "$quick" "${CHAFFDANCER_SOAK:-2000000}"
