@@ -13,7 +13,7 @@ use board::Board;
 use desks::is_open;
 use wire::{Answer, Reason};
 
-// Commit, or abort as too old or overwritten. It is one function, since the compiler copies the desks once more for each one split off.
+// Commit, or abort as too old or overwritten. It is one function, since the desks were copied once more for each one split off.
 pub fn end(b: Board, d: usize) -> Answer
     requires d_bound { d < 16 }
     requires counted { Counted b }

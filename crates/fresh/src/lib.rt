@@ -19,6 +19,7 @@ pub struct Opened {
 }
 
 // Zeroes the journal, as far as it is used.
+#[tactic(auto, using(records::proofs::Sizes::room_within))]
 fn clear(journal: &mut [u8])
     ensures { journal.new ≡ cleared journal.old }
 {

@@ -25,7 +25,7 @@ fn next(last: Stepped, request: [u8; 8], journal: &mut [u8]) -> Stepped
 }
 
 // Hands the requests over one at a time and writes each answer after the one before it. The loop carries what the last request left:
-// so the board is copied no more than it must be.
+// so that the board is copied no more than it must be.
 pub fn serve(start: Journaled, requests: &[u8], answers: &mut [u8], journal: &mut [u8]) -> Journaled
     requires reached { Reached start }
     requires requests_in_bounds { 12 * (length requests.now / 8) ≤ length answers.old }

@@ -17,7 +17,7 @@ use pieces::{eight, put, put_values};
 use wire::Answer;
 
 // Hands the requests over one at a time and writes each answer after the one before it. The loop carries what the last request left:
-// so the board is copied no more than lending it asks.
+// so that the board is copied no more than lending it asks.
 pub fn serve(board: Board, requests: &[u8], answers: &mut [u8]) -> Board
     requires reached { Reached board }
     requires requests_in_bounds { 12 * (length requests.now / 8) ≤ length answers.old }

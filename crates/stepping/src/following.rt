@@ -65,8 +65,8 @@ fn installed(values: [u32; 64], k: Desk) -> [u32; 64]
     after
 }
 
-// One local holds the board all the way, and every way ends at the last line: so it is copied once. The desk's record is taken out before the
-// match, since in the arms it costs another copy.
+// One local holds the board all the way, and every way ends at the last line, so that it is copied no more than must be. The desk's record is
+// taken out before the match, since in the arms it cost another copy.
 pub fn follow(b: Board, asked: Decoded, answer: Answer) -> Board
     requires asked_bound { desk_of asked < 16 }
     requires answer_bound { item_of answer < 64 }

@@ -1,4 +1,5 @@
--- Each way out is a law of Decided and Validated; an open transaction has room for the next number.
+-- Each way out is a law of Decided and Validated; an open transaction has room for the next number. The last way out comes first, so that a
+-- range or a limit that is wrong is named before anything else.
 use Prim.Native.Nat.{ℕ, ◌<◌}
 use Rattle.board.proofs.Decided.{end_none, end-granted}
 use Rattle.board.proofs.Validated.{ended-unread, ended_old, ended-fresh, ended_stale}
@@ -16,6 +17,16 @@ use Rattle.ending.proofs.end.Goals as goal
 -- the number of a board with an open transaction is below 2,000
 room : {b : Board} {d : ℕ} → Counted b → d < 16 → is_open (desk_at b d) ≡ true → b.number.0 < 2000
 room {b} {d} counted low busy = omega (arith, counted.ahead d low busy, counted.limit)
+
+pub returns : goal.returns
+returns c =
+    let a = c.args in
+    let is_open = c.is_open in
+    let busy = sym is_open.ensures ∙ c.if-not-is_open.false in
+    let some = sym c.is_empty.ensures ∙ c.if-is_empty.false in
+    let stale = c.first_stale-stale in
+    rw (c.lowest-item.ensures, c.common-both.ensures, c.place.ensures)
+    (ended_stale a.b.sets a.b.number (desk_at a.b a.d) some (omega arith) stale.result stale.ensures (omega arith) ∙ end-granted _ _ busy)
 
 pub returns-then-not-is_open : goal.returns-then-not-is_open
 returns-then-not-is_open c = end_none _ _ (sym c.is_open.ensures ∙ c.if-not-is_open.true)
@@ -61,13 +72,3 @@ returns-then-stale-last c =
 
 pub overflow_cast-item : goal.overflow_cast-item
 overflow_cast-item c = omega (arith, c.lowest-item.ensures, lowest_le c.common-both.result)
-
-pub returns : goal.returns
-returns c =
-    let a = c.args in
-    let is_open = c.is_open in
-    let busy = sym is_open.ensures ∙ c.if-not-is_open.false in
-    let some = sym c.is_empty.ensures ∙ c.if-is_empty.false in
-    let stale = c.first_stale-stale in
-    rw (c.lowest-item.ensures, c.common-both.ensures, c.place.ensures)
-    (ended_stale a.b.sets a.b.number (desk_at a.b a.d) some (omega arith) stale.result stale.ensures (omega arith) ∙ end-granted _ _ busy)

@@ -24,9 +24,6 @@ one_more j i h =
 pub loop-i-init : goal.loop-i-init
 loop-i-init c = (omega arith, refl, refl)
 
-pub bounds-journal-i : goal.bounds-journal-i
-bounds-journal-i c = omega (arith, c.room-end.ensures, room_within (length c.args.journal.now))
-
 pub loop-i-preserved : goal.loop-i-preserved
 loop-i-preserved c =
     let j = c.args.journal.now in (
