@@ -1,14 +1,18 @@
 // Standard input of any length.
-ghost use Rattle.std.specs.Prelude.{◌<◌, ◌≤◌, IfOk, length};
+ghost use Rattle.std.specs.Prelude.{◌<◌, ◌≤◌, IfOk, length, take};
+ghost use Rattle.std.specs.Io.KnownBytes.{Consumes, IsAtEnd};
 
 use std::io::{self, Read};
 
 // The table, one request more than a run takes, and 7 bytes: what comes after those changes nothing but the remainder by 8.
 pub const MOST: usize = 33807;
 
-// Reads until the buffer is full or the input ends: how many bytes stand at its front.
-pub fn read_full(reader: &mut impl Read, buffer: &mut [u8]) -> io::Result<usize>
-    ensures { IfOk result (λ n. n ≤ length buffer.new) }
+// Reads until the buffer is full or the input ends: how many bytes stand at its front, which the input began with and has no more.
+// It stops short only where nothing is left.
+pub fn read_full<R: Read>(reader: &mut R, buffer: &mut [u8]) -> io::Result<usize>
+    ensures bound { IfOk result (λ n. n ≤ length buffer.new) }
+    ensures bytes { IfOk result (λ n. Consumes (R.remaining reader.old) (R.remaining reader.new) (take n buffer.new)) }
+    ensures short { IfOk result (λ n. n < length buffer.new → IsAtEnd (R.remaining reader.new)) }
 {
     let mut done = 0;
     while done < buffer.len() {

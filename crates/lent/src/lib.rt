@@ -7,7 +7,6 @@ ghost use Rattle.lent.specs.Refusals.{refusal};
 use table::wrong;
 
 // The number of the refusal of a run with this table and these lengths, 0 where there is none.
-#[tactic(auto, unfolding(crate::specs::Refusals::refusal))]
 pub fn refusal(table: &[u8], requests: usize, answers: usize, values: usize) -> u8
     ensures { result ≡ refusal table.now requests answers values }
 {
