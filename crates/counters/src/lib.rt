@@ -1,4 +1,5 @@
 // Ages and transaction numbers: two counters, never compared with each other.
+// So they are two types, each with its zero and its next one, and not one generic counter that could be handed over for the other.
 // Both begin at 0, the first one given is 1, and the hub gives no age above 2,000 and so no number above it.
 #![tactic(auto)]
 
@@ -7,11 +8,14 @@ ghost use Rattle.counters.specs.Counters.{next_age, next_number, later_number};
 
 // A transaction's age: the lower, the older.
 #[repr(C)]
-#[derive(Clone, Copy)]
+#[derive(Clone, Copy, PartialEq, Eq, PartialOrd, Ord)]
 pub struct Age(pub u32);
 
 impl Age {
     pub const ZERO: Age = Age(0);
+
+    // The last one that the hub gives.
+    pub const LAST: Age = Age(2000);
 
     // The age given after this one.
     pub fn next(self) -> Age
@@ -25,7 +29,7 @@ impl Age {
     pub fn below(self, other: Age) -> bool
         ensures { result ≡ ltb self.0 other.0 }
     {
-        self.0 < other.0
+        self < other
     }
 }
 

@@ -20,13 +20,13 @@ digit n i = n / 2 ^ i % 2
 abbrev pub is_set : ℕ → ℕ → Bool
 is_set n i = eqb (digit n i) 1
 
-digit_zero : (n : ℕ) → digit n 0 ≡ n % 2
+pub digit_zero : (n : ℕ) → digit n 0 ≡ n % 2
 digit_zero n = ap (λ (x : ℕ). x % 2) (div-one n)
 
-digit_suc : (n i : ℕ) → digit n (suc i) ≡ digit (n / 2) i
+pub digit_suc : (n i : ℕ) → digit n (suc i) ≡ digit (n / 2) i
 digit_suc n i = ap (λ (x : ℕ). x % 2) (ap (λ (x : ℕ). n / x) (pow-succ' 2 i) ∙ sym (div-div-eq-div-mul n 2 (2 ^ i)))
 
-low_lt : (n : ℕ) → n % 2 < 2
+pub low_lt : (n : ℕ) → n % 2 < 2
 low_lt n = mod-lt n (zero-lt-suc 1)
 
 -- a fact of two digits is a matter of four cases
@@ -114,7 +114,7 @@ tests_tell : (x y : ℕ) → x < 2 → y < 2 → eqb x 1 ≡ eqb y 1 → x ≡ y
 tests_tell =
     by_digits (λ x y. eqb x 1 ≡ eqb y 1 → x ≡ y) (λ e. refl) (λ e. absurd (false≢true e)) (λ e. absurd (true≢false e)) (λ e. refl)
 
-half_lt : {n : ℕ} (k : ℕ) → n < 2 ^ suc k → n / 2 < 2 ^ k
+pub half_lt : {n : ℕ} (k : ℕ) → n < 2 ^ suc k → n / 2 < 2 ^ k
 half_lt k h = shr_lt k 1 (rw (add-one k) h)
 
 pub same_digits : (k a b : ℕ) → a < 2 ^ k → b < 2 ^ k → ((i : ℕ) → i < k → is_set a i ≡ is_set b i) → a ≡ b

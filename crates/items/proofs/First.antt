@@ -6,8 +6,10 @@ use Prim.Native.Nat.{ℕ, zero, suc, ◌+◌, ◌≤◌, ◌<◌, zero-le, suc-l
 use native.Mathlib.Nat.{le_of_suc-le-suc, not-suc-le-zero, zero-lt-suc, le_refl, lt_irrefl}
 use native.Mathlib.Omega.{arith}
 use borrow.Author.Count.{below_more}
-use borrow.Author.Tests.{ltb-true, ltb-false, le-ltb, not-true, not-false}
-use Rattle.items.specs.First.{first, any, every}
+use borrow.Author.Tests.{ltb-true, ltb-false, le-ltb, lt-ltb, not-true, not-false}
+use Rattle.std.specs.Prelude.{Some, None, ltb}
+use Rattle.std.proofs.lemmas.Option.{none-some, same_Some}
+use Rattle.items.specs.First.{found, first, any, every}
 use Rattle.items.proofs.Tests.{by_test, clash}
 
 module _ (n : ℕ) (f : ℕ → Bool) where
@@ -107,3 +109,15 @@ module _ (n : ℕ) (f : ℕ → Bool) where
 
   pub every_not : (k : ℕ) → k < n → f k ≡ false → every n f ≡ false
   every_not k h e = by_test (every n f) (λ t. clash (every_at t k h) e) (λ o. o)
+
+-- ---- a place that was looked for
+
+pub found_some : {n i : ℕ} → i < n → Some i ≡ found n i
+found_some {n} {i} h = rw (lt-ltb i n h)
+
+pub none_found : (n i : ℕ) → found n i ≡ None → n ≤ i
+none_found n i e = by_test (ltb i n) (λ t. absurd (none-some i (sym e ∙ rw t))) (λ f. ltb-false i n f)
+
+pub some_found : (n i j : ℕ) → found n i ≡ Some j → (i < n) × (i ≡ j)
+some_found n i j e =
+    by_test (ltb i n) (λ t. (ltb-true i n t, same_Some i j (rw t at e))) (λ f. absurd (none-some j (rw f at e)))

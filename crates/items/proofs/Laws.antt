@@ -5,14 +5,17 @@ use mathlib.Core.Logic.{◌≢◌}
 use mathlib.Core.Bool.{Bool, true, false, ◌&&◌, ◌||◌, not, or-true, or-false, and-true, and-false, true≢false}
 use Prim.Native.Nat.{ℕ, ◌^◌, ◌≤◌, ◌<◌}
 use borrow.Author.Tests.{eq-eqb, ne_eqb, not-true, not-false}
+use native.Mathlib.Omega.{arith}
 use lib.Bits.{and_lt, or_lt, xor_lt}
 use lib.Count.{count_trailing_zeros}
 use lib.Dec.{eqb, lit<}
 use lib.Pow.{pow-lt}
+use Rattle.std.specs.Prelude.{Some, None}
+use Rattle.items.specs.First.{found}
 use Rattle.items.specs.Items.{has, none, with, without, common, joined, empty, lowest}
 use Rattle.items.specs.declared.Items.{Items}
 use Rattle.items.proofs.Tests.{by_test, and_left, and_right, or_left}
-use Rattle.items.proofs.First.{first_le, first_before, first_passes, first_is, first_none, any_first, any_none, none_any, any_is}
+use Rattle.items.proofs.First.{first_le, first_before, first_passes, first_is, first_none, any_first, any_none, none_any, any_is, some_found, none_found}
 use Rattle.items.proofs.Digits.{set_zero, set_and, set_or, set_less, set_pow, same_digits, trailing_first}
 
 -- ---- what is in a set
@@ -130,9 +133,25 @@ common-none s t e i l h = sym (and-true (has s i)) ∙ rw (← h) (sym (has-comm
 pub empty-none : empty none ≡ true
 empty-none = empty_is none (λ i h. has-none i)
 
-pub empty-lowest : (s : Items) → empty s ≡ true → lowest s ≡ 64
+pub lowest_empty : (s : Items) → empty s ≡ true → lowest s ≡ 64
 unfolding lowest
-empty-lowest s e = sym (first_none 64 (has s) (empty-has s e))
+lowest_empty s e = sym (first_none 64 (has s) (empty-has s e))
+
+-- so it is found unless the set is empty
+pub lowest_found : (s : Items) → empty s ≡ false → lowest s < 64
+unfolding lowest empty
+lowest_found s e = any_first 64 (has s) (not-false _ e)
+
+-- what is found tells whether it is empty, and which item is the lowest
+pub lowest_some : (s : Items) (i : ℕ) → found 64 (lowest s) ≡ Some i → (empty s ≡ false) × (lowest s ≡ i)
+lowest_some s i e =
+    let f : (lowest s < 64) × (lowest s ≡ i) = some_found 64 (lowest s) i e in
+    (by_test (empty s) (λ t. absurd (let none = lowest_empty s t in let some = f.0 in omega arith)) (λ f. f), f.1)
+
+pub lowest_nothing : (s : Items) → found 64 (lowest s) ≡ None → empty s ≡ true
+lowest_nothing s e =
+    by_test (empty s) (λ t. t)
+    (λ f. absurd (let low = lowest_found s f in let high = none_found 64 (lowest s) e in omega arith))
 
 -- some item is in it
 pub filled_is : (s : Items) (i : ℕ) → i < 64 → has s i ≡ true → empty s ≡ false

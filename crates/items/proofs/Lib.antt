@@ -4,3 +4,4 @@ pub mod First
 pub mod Digits
 pub mod Laws
 pub mod Examples
+pub mod Counted

@@ -1,7 +1,7 @@
 -- Sets of the items 0 to 63, as bitmasks: item i is in s where the binary digit i of s is 1.
 -- Other crates' proofs go by the laws (proofs/Laws.antt) and leave these definitions shut.
 -- An example that is to be computed says `unfolding sets`, which opens them all.
-use Rattle.std.specs.Prelude.{Bool, not, ℕ, ◌/◌, ◌%◌, ◌^◌, eqb}
+use Rattle.std.specs.Prelude.{Bool, not, ℕ, zero, suc, ◌+◌, ◌/◌, ◌%◌, ◌^◌, cond, eqb}
 use Rattle.std.specs.Int.Bits.{bit_and, bit_or, bit_xor}
 use Rattle.items.specs.First.{first, any, every}
 use Rattle.items.specs.declared.Items.{Items}
@@ -38,7 +38,12 @@ lowest s = first 64 (has s)
 unfoldable pub empty : Items → Bool
 empty s = not (any 64 (has s))
 
+-- how many of the items below n are in s
+unfoldable pub count_below : Items → ℕ → ℕ
+count_below s zero = 0
+count_below s (suc n) = count_below s n + cond (has s n) 1 0
+
 -- opens all of them
 unfoldable pub sets : Unit {0}
-unfolding first any every has with without common joined lowest empty
+unfolding first any every has with without common joined lowest empty count_below
 sets = tt
