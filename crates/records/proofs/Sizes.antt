@@ -8,11 +8,11 @@ use native.Mathlib.Numerals.{add-one}
 use borrow.Author.Tests.{ltb-true, ltb-false}
 use lib.Dec.{ltb}
 use lib.ListN.{length, length-append}
-use Rattle.items.specs.Items.{has}
+use Rattle.items.specs.Items.{has, count_below}
 use Rattle.items.specs.declared.Items.{Items}
 use Rattle.items.proofs.Tests.{by_test, by_cond, by_equal}
 use Rattle.pieces.specs.Pieces.{in_one}
-use Rattle.records.specs.Records.{count_below, item_record, item_records, entry, size_of, room}
+use Rattle.records.specs.Records.{item_record, item_records, entry, size_of, room}
 
 -- pieces in one, one after another
 pub in_one-append : (ps qs : List (List ℕ)) → in_one (ps ++ qs) ≡ in_one ps ++ in_one qs

@@ -2,7 +2,7 @@
 -- bytes 4 to 7 the value; then the closing record, in the same places 2, 0, the number, the count of items written. Low byte first.
 use Rattle.std.specs.Prelude.{ℕ, zero, suc, ◌+◌, ◌*◌, ◌/◌, ◌%◌, cond, List, [], ◌∷◌, ◌++◌, ltb, length}
 use Rattle.std.proofs.Math.Seq.{paste}
-use Rattle.items.specs.Items.{has}
+use Rattle.items.specs.Items.{has, count_below}
 use Rattle.items.specs.declared.Items.{Items}
 use Rattle.counters.specs.declared.Number.{Number}
 use Rattle.words.specs.Bytes.{four_bytes}
@@ -12,11 +12,6 @@ use Rattle.pieces.specs.Pieces.{in_one}
 
 abbrev pub record_of : ℕ → ℕ → ℕ → ℕ → List ℕ
 record_of kind item number value = kind ∷ item ∷ number % 256 ∷ number / 256 % 256 ∷ four_bytes value
-
--- how many of the items below n are in w
-unfoldable pub count_below : Items → ℕ → ℕ
-count_below w zero = 0
-count_below w (suc n) = count_below w n + cond (has w n) 1 0
 
 -- the record of item i with value v in the commit of number n, if the item is in w
 abbrev pub item_record : Items → ℕ → ℕ → ℕ → List (List ℕ)

@@ -1,16 +1,18 @@
 -- A row of the opening table, test by test: the first that fails decides, and where all pass the row is right.
-use mathlib.Core.Path.{◌≡◌, sym, ◌∙◌}
+use mathlib.Core.Path.{◌≡◌, refl, sym, ◌∙◌}
 use mathlib.Core.Bool.{Bool, true, false, ◌&&◌}
 use mathlib.Core.List.{List}
 use Prim.Native.Nat.{ℕ, ◌+◌, ◌*◌, ◌≤◌, ◌<◌}
 use borrow.Author.Tests.{le-leb, lt-leb, eq-eqb, ne_eqb, ltb-true, ltb-false, eqb-true, not-false}
 use lib.Dec.{eqb, ltb}
 use lib.ListN.{length}
+use Rattle.std.specs.Prelude.{Result, Ok, Err, is_err}
+use Rattle.table.specs.declared.WrongTable.{WrongTable}
 use Rattle.items.specs.First.{every}
 use Rattle.items.proofs.Tests.{by_test, by_equal, clash, and_right}
 use Rattle.items.proofs.First.{every_at, every_is, every_not}
 use Rattle.words.specs.Bytes.{byte}
-use Rattle.table.specs.Table.{floor_at, ceiling_at, value_at, kind_at, row_right, wrong}
+use Rattle.table.specs.Table.{floor_at, ceiling_at, value_at, kind_at, row_right, wrong, checked}
 
 module _ (t : List ℕ) (i : ℕ) where
   pub below_floor : value_at t i < floor_at t i → false ≡ row_right t i
@@ -90,6 +92,37 @@ module _ (t : List ℕ) where
     pub wrong_none : ((i : ℕ) → i < 64 → row_right t i ≡ true) → false ≡ wrong t
     unfolding wrong
     wrong_none all = rw (long, every_is 64 (row_right t) all)
+
+-- what the check of it gives; an error passed on is the only one there is
+pub is_wrong : {A : Type 0} (r : Result A WrongTable) → is_err r ≡ true → r ≡ Err (record {})
+is_wrong (Ok x) h = cc
+is_wrong (Err e) h = refl
+
+pub checked_wrong : (t : List ℕ) → wrong t ≡ true → Err (record {}) ≡ checked t
+unfolding checked
+checked_wrong t e = rw (e, checked)
+
+module _ (t : List ℕ) where
+  pub checked_length : (length t ≡ 1024 → ⊥) → Err (record {}) ≡ checked t
+  checked_length h = checked_wrong t (sym (wrong-length t h))
+
+  module _ (long : length t ≡ 1024) where
+    pub checked_row : (i : ℕ) → i < 64 → row_right t i ≡ false → Err (record {}) ≡ checked t
+    checked_row i h e = checked_wrong t (sym (wrong_row t long i h e))
+
+    pub checked_rows : ((i : ℕ) → i < 64 → row_right t i ≡ true) → Ok t ≡ checked t
+    unfolding checked
+    checked_rows all = rw (← wrong_none t long all) refl
+
+-- what the rows are that it gives
+pub checked_is : (t rows : List ℕ) → Ok rows ≡ checked t → (rows ≡ t) × (wrong t ≡ false)
+unfolding checked
+checked_is t rows e =
+    by_test (wrong t) (λ w. let f : Ok rows ≡ Err (record {}) = rw w at e in cc) (λ w. let f : Ok rows ≡ Ok t = rw w at e in (cc, w))
+
+pub checked_not : (t : List ℕ) (e : WrongTable) → Err e ≡ checked t → wrong t ≡ true
+unfolding checked
+checked_not t x e = by_test (wrong t) (λ w. w) (λ w. let f : Err x ≡ Ok t = rw w at e in cc)
 
 -- what a table that is not wrong has
 pub right_long : (t : List ℕ) → wrong t ≡ false → length t ≡ 1024

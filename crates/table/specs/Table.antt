@@ -1,7 +1,8 @@
 -- Outline, "A whole run": the opening table is 64 records of 16 bytes: floor, ceiling and value, kind (0 open, 1 guarded), three zero bytes.
-use Rattle.std.specs.Prelude.{ℕ, ◌+◌, ◌*◌, Bool, not, ◌&&◌, List, eqb, leb, length}
+use Rattle.std.specs.Prelude.{ℕ, ◌+◌, ◌*◌, Bool, not, ◌&&◌, cond, List, eqb, leb, length, Result, Ok, Err}
 use Rattle.items.specs.First.{every}
 use Rattle.words.specs.Bytes.{byte, word_at}
+use Rattle.table.specs.declared.WrongTable.{WrongTable}
 
 -- what row i says
 abbrev pub floor_at : List ℕ → ℕ → ℕ
@@ -29,3 +30,7 @@ row_right t i =
 -- it is wrong unless it is exactly 1,024 bytes and each row is right
 unfoldable pub wrong : List ℕ → Bool
 wrong t = not (eqb (length t) 1024 && every 64 (row_right t))
+
+-- its rows, unless it is wrong
+unfoldable pub checked : List ℕ → Result (List ℕ) WrongTable
+checked t = cond (wrong t) (Err (record {})) (Ok t)

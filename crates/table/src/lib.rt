@@ -1,49 +1,49 @@
 // The opening table: 64 rows of 16 bytes.
 #![tactic(auto)]
 
-ghost use Rattle.std.specs.Prelude.{◌≡◌, ◌+◌, ◌*◌, ◌≤◌, length};
-ghost use Rattle.table.specs.Table.{row_right, wrong};
+ghost use Rattle.std.specs.Prelude.{◌≡◌, ◌<◌};
+ghost use Rattle.std.specs.Result.{result_map_both};
+ghost use Rattle.table.specs.Table.{row_right, wrong, checked};
 
 use words::number_at;
 
+// The table is not 1,024 bytes long, or some row is not right.
+#[derive(Clone, Copy, Debug, PartialEq, Eq)]
+pub struct WrongTable;
+
 // Floor ≤ value ≤ ceiling, the kind is 0 or 1, and the last three bytes are zero.
-fn row_right(table: &[u8], i: usize) -> bool
-    requires { 16 * i + 16 ≤ length table.now }
+#[tactic(auto, unfolding(crate::specs::Table::row_right))]
+fn row_right(table: &[u8; 1024], i: usize) -> bool
+    requires { i < 64 }
     ensures { result ≡ row_right table.now i }
 {
     let at = 16 * i;
     let value = number_at(table, at + 8);
-    if value < number_at(table, at) {
-        return false;
+    number_at(table, at) <= value
+        && value <= number_at(table, at + 4)
+        && table[at + 12] <= 1
+        && table[at + 13] == 0
+        && table[at + 14] == 0
+        && table[at + 15] == 0
+}
+
+// The rows of a table that is not wrong.
+pub fn check(table: &[u8]) -> Result<&[u8; 1024], WrongTable>
+    ensures { result_map_both (λ rows. rows.now) (λ e. e) result ≡ checked table.now }
+{
+    let rows: &[u8; 1024] = table.as_array().ok_or(WrongTable)?;
+    for i in 0..64 {
+        if !row_right(rows, i) {
+            return Err(WrongTable);
+        }
     }
-    if number_at(table, at + 4) < value {
-        return false;
-    }
-    if table[at + 12] > 1 {
-        return false;
-    }
-    if table[at + 13] != 0 {
-        return false;
-    }
-    if table[at + 14] != 0 {
-        return false;
-    }
-    table[at + 15] == 0
+    Ok(rows)
 }
 
 // The table is not 1,024 bytes long, or some row is not right.
+#[tactic(auto, unfolding(crate::specs::Table::checked))]
 pub fn wrong(table: &[u8]) -> bool
     ensures { result ≡ wrong table.now }
 {
-    if table.len() != 1024 {
-        return true;
-    }
-    let mut i = 0;
-    while i < 64 {
-        if !row_right(table, i) {
-            return true;
-        }
-        i += 1;
-    }
-    false
+    check(table).is_err()
 }

@@ -4,17 +4,11 @@
 ghost use Rattle.std.specs.Prelude.{◌≡◌, ◌+◌, ◌≤◌, length};
 ghost use Rattle.words.specs.Bytes.{word, word_at, four_bytes};
 
-fn wide(x: u8) -> u32
-    ensures { result ≡ x }
-{
-    x as u32
-}
-
 // The number that four bytes give.
 pub fn number(a: u8, b: u8, c: u8, d: u8) -> u32
     ensures { result ≡ word a b c d }
 {
-    wide(a) + 256 * wide(b) + 65536 * wide(c) + 16777216 * wide(d)
+    u32::from_le_bytes([a, b, c, d])
 }
 
 // The number in the four bytes from index at on.
@@ -29,10 +23,5 @@ pub fn number_at(s: &[u8], at: usize) -> u32
 pub fn four_bytes(n: u32) -> [u8; 4]
     ensures { result ≡ four_bytes n }
 {
-    [
-        (n % 256) as u8,
-        (n / 256 % 256) as u8,
-        (n / 65536 % 256) as u8,
-        (n / 16777216 % 256) as u8,
-    ]
+    n.to_le_bytes()
 }

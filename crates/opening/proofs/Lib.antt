@@ -1,0 +1,2 @@
+-- Made: an array made by a closure, place by place.
+pub mod Made
