@@ -2,93 +2,81 @@
 #![tactic(auto)]
 
 ghost use Rattle.std.specs.Prelude.{◌≡◌};
-ghost use Rattle.wire.specs.Requests.{request_of, unused_zero, value_in, decode, desk_of, value_of};
+ghost use Rattle.wire.specs.Requests.{request_in, unused_zero, value_in, decode, desk_of, value_of};
 
-use wire::{Decoded, Request};
+use places::Seat;
+use wire::{Refusal, Request};
 use words::number;
 
 // The request of a kind that is 1 to 5.
-fn request_of(kind: u8, item: u8, value: u32) -> Request
-    ensures { result ≡ request_of kind item value }
+#[tactic(auto, unfolding(wire::specs::Requests::request_of))]
+fn request_of(kind: u8, item: u8, value: u32) -> Option<Request>
+    ensures { result ≡ request_in kind item value }
 {
     match kind {
-        1 => Request::Begin,
-        2 => Request::Read(item),
-        3 => Request::Write(item, value),
-        4 => Request::End,
-        _ => Request::Abandon,
+        1 => Some(Request::Begin),
+        2 => Some(Request::Read(item)),
+        3 => Some(Request::Write(item, value)),
+        4 => Some(Request::End),
+        5 => Some(Request::Abandon),
+        _ => None,
     }
 }
 
 // The fields that the kind does not use are zero: the item but of a read or a write, the value but of a write, byte 3 always.
+// The kind stays the record's byte here, as in the rule of this name: of a request that was made of it the unused fields are gone.
 #[tactic(auto, unfolding(wire::specs::Requests::unused_zero))]
 fn unused_zero(kind: u8, item: u8, spare: u8, value: u32) -> bool
     ensures { result ≡ unused_zero kind item spare value }
 {
-    if spare != 0 {
-        return false;
-    }
-    if kind == 3 {
-        return true;
-    }
-    if value != 0 {
-        return false;
-    }
-    if kind == 2 {
-        return true;
-    }
-    item == 0
+    spare == 0 && (kind == 2 || kind == 3 || item == 0) && (kind == 3 || value == 0)
 }
 
 // The value of a write, 0 of any other.
-fn value(r: Request) -> u32
-    ensures { result ≡ value_in r }
+fn value(request: Request) -> u32
+    ensures { result ≡ value_in request }
 {
-    match r {
-        Request::Begin => 0,
-        Request::Read(_) => 0,
-        Request::Write(_, v) => v,
-        Request::End => 0,
-        Request::Abandon => 0,
+    match request {
+        Request::Write(_, value) => value,
+        _ => 0,
     }
 }
 
-// Checks 1 to 3, in their order.
-pub fn decode(bytes: [u8; 8]) -> Decoded
+// Checks 1 to 3, in their order. A function and no TryFrom: a pair of a seat and a request is no type of this repository.
+#[tactic(auto, unfolding(wire::specs::Requests::decode))]
+pub fn decode(bytes: [u8; 8]) -> Result<(Seat, Request), Refusal>
     ensures { result ≡ decode bytes }
 {
-    let kind = bytes[0];
-    let desk = bytes[1];
-    let item = bytes[2];
-    let value = number(bytes[4], bytes[5], bytes[6], bytes[7]);
-    if kind == 0 || kind > 5 {
-        return Decoded::Malformed(1);
+    let [kind, desk, item, spare, a, b, c, d] = bytes;
+    let value = number(a, b, c, d);
+    let Some(request) = request_of(kind, item, value) else {
+        return Err(Refusal::NoSuchKind);
+    };
+    let Ok(seat) = Seat::try_from(desk) else {
+        return Err(Refusal::NoSuchDesk);
+    };
+    if !unused_zero(kind, item, spare, value) {
+        return Err(Refusal::UnusedNotZero);
     }
-    if desk > 15 {
-        return Decoded::Malformed(2);
-    }
-    if !unused_zero(kind, item, bytes[3], value) {
-        return Decoded::Malformed(3);
-    }
-    Decoded::Asked(desk, request_of(kind, item, value))
+    Ok((seat, request))
 }
 
-// The desk that asks, 0 where the record is malformed.
-pub fn desk_of(asked: Decoded) -> usize
-    ensures { result ≡ desk_of asked }
+// The desk that asks; desk 0 where the record is malformed, and no Option, since the rule `follow` puts desk 0 there (board, specs/Rules).
+pub fn desk_of(asked: &Result<(Seat, Request), Refusal>) -> Seat
+    ensures { result ≡ desk_of asked.now }
 {
     match asked {
-        Decoded::Asked(d, _) => d as usize,
-        Decoded::Malformed(_) => 0,
+        Ok((seat, _)) => *seat,
+        Err(_) => Seat::at(0),
     }
 }
 
-// The value of a write, 0 of any other.
-pub fn value_of(asked: Decoded) -> u32
-    ensures { result ≡ value_of asked }
+// The value of a write; 0 of any other, as in the rule `value_of` (wire, specs/Requests).
+pub fn value_of(asked: &Result<(Seat, Request), Refusal>) -> u32
+    ensures { result ≡ value_of asked.now }
 {
     match asked {
-        Decoded::Asked(_, r) => value(r),
-        Decoded::Malformed(_) => 0,
+        Ok((_, request)) => value(*request),
+        Err(_) => 0,
     }
 }

@@ -1,5 +1,5 @@
 -- Outline, "Records of a desk and of the board", the part of a desk; and "Locks".
-use Rattle.std.specs.Prelude.{ℕ, zero, suc, ◌≡◌, refl, Bool, true, cond, not, ◌&&◌, ◌||◌, List, [], ◌∷◌, get_or, replicate, eqb, ltb}
+use Rattle.std.specs.Prelude.{ℕ, zero, suc, ◌≡◌, refl, Bool, true, cond, not, ◌&&◌, ◌||◌, List, [], ◌∷◌, get_or, replicate, Option, Some, None, eqb, ltb}
 use Rattle.items.specs.Items.{none, has}
 use Rattle.items.specs.declared.Items.{Items}
 use Rattle.counters.specs.Counters.{no_age, no_number}
@@ -59,6 +59,11 @@ eldest p age zero = 16
 eldest p age (suc n) =
     let e = eldest p age n in
     cond (p n && (eqb e 16 || ltb (age n) (age e))) n e
+
+-- one desk more, e, after the one found: it is taken if none was or it is older
+abbrev pub older : (ℕ → ℕ) → Option ℕ → ℕ → ℕ
+older age None e = e
+older age (Some f) e = cond (ltb (age e) (age f)) e f
 
 -- of desks with ages 3, 1 and 2 it is desk 1
 pub of_three : eldest (λ e. true) (λ e. get_or (3 ∷ 1 ∷ 2 ∷ []) e 0) 3 ≡ 1

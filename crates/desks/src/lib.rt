@@ -7,7 +7,8 @@ ghost use Rattle.desks.specs.Desks.{blank, opened, idle, is_open};
 use counters::{Age, Number};
 use items::Items;
 
-// A desk's record: its open transaction, or all zero but for an age kept from an abort. It has no padding, so that it is copied whole.
+// A desk's record: its open transaction, or all zero but for an age kept from an abort. It has no padding, so that it is copied whole,
+// and any bytes are one, since C lends them (hub_open takes whatever stands there): so a number says what is open, and 0 is no age kept.
 #[repr(C)]
 #[derive(Clone, Copy)]
 pub struct Desk {
@@ -20,38 +21,40 @@ pub struct Desk {
     pub copies: [u32; 64],
 }
 
-// Nothing read, held or written.
-fn blank(busy: u64, age: Age, start: Number) -> Desk
-    ensures { result ≡ blank busy age start }
-{
-    Desk {
-        busy,
-        age,
-        start,
-        read: Items::NONE,
-        shared: Items::NONE,
-        written: Items::NONE,
-        copies: [0; 64],
+impl Desk {
+    // Nothing read, held or written.
+    fn blank(busy: u64, age: Age, start: Number) -> Desk
+        ensures { result ≡ blank busy age start }
+    {
+        Desk {
+            busy,
+            age,
+            start,
+            read: Items::NONE,
+            shared: Items::NONE,
+            written: Items::NONE,
+            copies: [0; 64],
+        }
     }
-}
 
-// A transaction just begun.
-pub fn opened(age: Age, start: Number) -> Desk
-    ensures { result ≡ opened age start }
-{
-    blank(1, age, start)
-}
+    // A transaction just begun.
+    pub fn opened(age: Age, start: Number) -> Desk
+        ensures { result ≡ opened age start }
+    {
+        Desk::blank(1, age, start)
+    }
 
-// A desk with nothing open, and the age that it keeps: 0 where it keeps none.
-pub fn idle(kept: Age) -> Desk
-    ensures { result ≡ idle kept }
-{
-    blank(0, kept, Number::ZERO)
-}
+    // A desk with nothing open, and the age that it keeps: 0 where it keeps none.
+    pub fn idle(kept: Age) -> Desk
+        ensures { result ≡ idle kept }
+    {
+        Desk::blank(0, kept, Number::ZERO)
+    }
 
-// A transaction is open.
-pub fn is_open(k: Desk) -> bool
-    ensures { result ≡ is_open k }
-{
-    k.busy != 0
+    // A transaction is open.
+    pub fn is_open(&self) -> bool
+        ensures { result ≡ is_open self.now }
+    {
+        self.busy != 0
+    }
 }

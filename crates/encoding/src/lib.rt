@@ -5,32 +5,23 @@ ghost use Rattle.std.specs.Prelude.{◌≡◌};
 ghost use Rattle.wire.specs.Answers.{record_of, encode};
 
 use wire::{Answer, Reason};
+use words::four_bytes;
 
 fn record(code: u8, desk: u8, item: u8, reason: u8, first: u32, second: u32) -> [u8; 12]
     ensures { result ≡ record_of code desk item reason first second }
 {
-    [
-        code,
-        desk,
-        item,
-        reason,
-        (first % 256) as u8,
-        (first / 256 % 256) as u8,
-        (first / 65536 % 256) as u8,
-        (first / 16777216 % 256) as u8,
-        (second % 256) as u8,
-        (second / 256 % 256) as u8,
-        (second / 65536 % 256) as u8,
-        (second / 16777216 % 256) as u8,
-    ]
+    let [a, b, c, d] = four_bytes(first);
+    let [e, f, g, h] = four_bytes(second);
+    [code, desk, item, reason, a, b, c, d, e, f, g, h]
 }
 
-// The record of an answer to a request with this desk byte.
+// The record of an answer to a request with this desk byte. A function and no From: it is made of two values.
+#[tactic(auto, unfolding(wire::specs::Answers::encode))]
 pub fn encode(desk: u8, a: Answer) -> [u8; 12]
     ensures { result ≡ encode desk a }
 {
     match a {
-        Answer::Refused(n) => record(0, desk, 0, n, 0, 0),
+        Answer::Refused(refusal) => record(0, desk, 0, u8::from(refusal), 0, 0),
         Answer::Opened(age, start) => record(1, desk, 0, 0, age.0, start.0),
         Answer::Value(item, value) => record(2, desk, item, 0, value, 0),
         Answer::Stored(item) => record(3, desk, item, 0, 0, 0),

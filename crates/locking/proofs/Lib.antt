@@ -1,2 +1,2 @@
--- Search: the search for a holder, desk after desk.
+-- Search: a loop that looks for the eldest desk.
 pub mod Search

@@ -1,94 +1,77 @@
 // Who holds a guarded item, and what is answered of it.
 #![tactic(auto)]
 
-ghost use Rattle.std.specs.Prelude.{◌≡◌, true, cond, ◌||◌, ◌<◌, eqb, ltb};
-ghost use Rattle.items.specs.Items.{has};
-ghost use Rattle.desks.specs.Desks.{conflicts, holder, locked};
+ghost use Rattle.std.specs.Prelude.{◌≡◌};
+ghost use Rattle.items.specs.First.{found};
+ghost use Rattle.desks.specs.Desks.{conflicts, desk_in, in_the_way, older, holder, locked};
 
-use counters::Age;
-use desks::{Desk, idle};
+use desks::Desk;
 use items::Items;
+use places::{Item, Seat};
 use wire::{Answer, Reason};
 
-// The desk's record conflicts with a read of item i, or with a write of it, which w tells.
-fn conflicts(k: Desk, i: usize, w: bool) -> bool
-    requires { i < 64 }
-    ensures { result ≡ conflicts k i w }
-{
-    if k.written.has(i) {
-        return true;
-    }
-    if w {
-        return k.shared.has(i);
-    }
-    false
-}
-
-// A holder found so far: the desk, 16 for none, and its age.
+// A desk asks to read the item, or to write it.
 #[derive(Clone, Copy)]
-struct Found {
-    desk: usize,
-    age: Age,
+pub struct Claim {
+    pub seat: Seat,
+    pub item: Item,
+    pub writes: bool,
 }
 
-// Desk e with this age, if there was none or it is older than the one found.
-fn older(found: Found, e: usize, age: Age) -> Found
-    ensures { result ≡ cond (eqb found.desk 16 || ltb age.0 found.age.0) (record { desk = e; age = age }) found }
-{
-    if found.desk == 16 || age.below(found.age) {
-        return Found { desk: e, age };
+impl Claim {
+    // The desk's record conflicts with it.
+    fn conflicts(&self, k: &Desk) -> bool
+        ensures { result ≡ conflicts k.now self.now.item self.now.writes }
+    {
+        k.written.has(self.item) || (self.writes && k.shared.has(self.item))
     }
-    found
-}
 
-// Of the desks but d that conflict at the guarded item i the one of lowest age; 16 where there is none.
-fn holder(desks: [Desk; 16], guarded: Items, d: usize, i: usize, w: bool) -> usize
-    requires { (d < 16) × (i < 64) × (has guarded i ≡ true) }
-    ensures { result ≡ holder desks guarded d i w }
-{
-    let mut others = desks;
-    others[d] = idle(Age::ZERO);
-    let mut found = Found {
-        desk: 16,
-        age: Age::ZERO,
-    };
-    let mut e = 0;
-    while e < 16 {
-        let k = others[e];
-        if conflicts(k, i, w) {
-            found = older(found, e, k.age);
+    // Seat e is another one, and its desk conflicts at the guarded item.
+    fn meets(&self, desks: &[Desk; 16], guarded: Items, e: Seat) -> bool
+        ensures { result ≡ in_the_way desks.now guarded self.now.seat self.now.item self.now.writes e }
+    {
+        guarded.has(self.item)
+            && e.index() != self.seat.index()
+            && self.conflicts(&desks[e.index()])
+    }
+
+    // Of the desks in the way the one of lowest age, if there is one.
+    fn holder(&self, desks: &[Desk; 16], guarded: Items) -> Option<Seat>
+        ensures { result ≡ found 16 (holder desks.now guarded self.now.seat self.now.item self.now.writes) }
+    {
+        let mut oldest: Option<Seat> = None;
+        for n in 0..16 {
+            let e = Seat::at(n);
+            if self.meets(desks, guarded, e) {
+                oldest = Some(older(desks, oldest, e));
+            }
         }
-        e += 1;
+        oldest
     }
-    found.desk
+
+    // What is granted, or wait, or yield: these name the oldest holder.
+    #[tactic(auto, using(items::proofs::First::none_found, desks::proofs::Locking::locked_free))]
+    pub fn locked(&self, desks: &[Desk; 16], guarded: Items, granted: Answer) -> Answer
+        ensures { result ≡ locked desks.now guarded self.now.seat self.now.item self.now.writes granted }
+    {
+        let Some(e) = self.holder(desks, guarded) else {
+            return granted;
+        };
+        let item = self.item.index() as u8;
+        let named = e.index() as u8;
+        if desks[self.seat.index()].age.below(desks[e.index()].age) {
+            return Answer::Wait(item, named);
+        }
+        Answer::Aborted(Reason::Yield(item, named))
+    }
 }
 
-// What is granted, or wait, or yield: these name the oldest holder.
-pub fn locked(
-    desks: [Desk; 16],
-    guarded: Items,
-    d: usize,
-    i: u8,
-    w: bool,
-    granted: Answer,
-) -> Answer
-    requires d_bound { d < 16 }
-    requires i_bound { i < 64 }
-    ensures { result ≡ locked desks guarded d i w granted }
+// Seat e, if none was found before it or it is older than the one found.
+fn older(desks: &[Desk; 16], found: Option<Seat>, e: Seat) -> Seat
+    ensures { result ≡ older (λ n. (desk_in desks.now n).age.0) found e }
 {
-    let item = i as usize;
-    if !guarded.has(item) {
-        return granted;
+    match found {
+        Some(f) if !desks[e.index()].age.below(desks[f.index()].age) => f,
+        _ => e,
     }
-    let e = holder(desks, guarded, d, item, w);
-    if e >= 16 {
-        return granted;
-    }
-    let own = desks[d];
-    let other = desks[e];
-    let named = e as u8;
-    if own.age.below(other.age) {
-        return Answer::Wait(i, named);
-    }
-    Answer::Aborted(Reason::Yield(i, named))
 }

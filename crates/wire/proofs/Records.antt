@@ -6,15 +6,42 @@ use mathlib.Core.List.{List}
 use lib.Dec.{eqb}
 use Rattle.words.specs.Bytes.{byte, word_at}
 use Rattle.words.proofs.Fours.{four_tell}
-use Rattle.wire.specs.Answers.{fields, encode}
+use Rattle.wire.specs.Answers.{number_of, fields, encode}
+use Rattle.wire.specs.declared.Refusal.{Refusal}
+use Rattle.wire.specs.declared.Refusal.TheVariants.{NoSuchKind, NoSuchDesk, UnusedNotZero, AlreadyOpen, NoneOpen, NoSuchItem, BelowFloor, AboveCeiling, NoAgeLeft, NoJournalLeft}
 use Rattle.wire.specs.declared.Reason.TheVariants.{Overwritten, TooOld, Yield}
 use Rattle.wire.specs.declared.Answer.{Answer}
 use Rattle.wire.specs.declared.Answer.TheVariants.{Refused, Opened, Value, Stored, Wait, Committed, Abandoned, Aborted}
 
+-- the refusal of a number
+abbrev refusal_of : ℕ → Refusal
+refusal_of n =
+    cond (eqb n 1) NoSuchKind
+    (cond (eqb n 2) NoSuchDesk
+    (cond (eqb n 3) UnusedNotZero
+    (cond (eqb n 4) AlreadyOpen
+    (cond (eqb n 5) NoneOpen
+    (cond (eqb n 6) NoSuchItem
+    (cond (eqb n 7) BelowFloor
+    (cond (eqb n 8) AboveCeiling
+    (cond (eqb n 9) NoAgeLeft NoJournalLeft))))))))
+
+number_tells : (r : Refusal) → refusal_of (number_of r) ≡ r
+number_tells NoSuchKind = refl
+number_tells NoSuchDesk = refl
+number_tells UnusedNotZero = refl
+number_tells AlreadyOpen = refl
+number_tells NoneOpen = refl
+number_tells NoSuchItem = refl
+number_tells BelowFloor = refl
+number_tells AboveCeiling = refl
+number_tells NoAgeLeft = refl
+number_tells NoJournalLeft = refl
+
 -- the answer that code, item, reason, first and second number tell
 abbrev answer_of : ℕ → ℕ → ℕ → ℕ → ℕ → Answer
 answer_of code item reason first second =
-    cond (eqb code 0) (Refused reason)
+    cond (eqb code 0) (Refused (refusal_of reason))
     (cond (eqb code 1) (Opened (record { 0 = first }) (record { 0 = second }))
     (cond (eqb code 2) (Value item first)
     (cond (eqb code 3) (Stored item)
@@ -29,7 +56,7 @@ abbrev from_fields : List ℕ → Answer
 from_fields f = answer_of (byte f 0) (byte f 1) (byte f 2) (byte f 3) (byte f 4)
 
 fields_tell : (a : Answer) → from_fields (fields a) ≡ a
-fields_tell (Refused n) = refl
+fields_tell (Refused r) = ap Refused (number_tells r)
 fields_tell (Opened a s) = refl
 fields_tell (Value i v) = refl
 fields_tell (Stored i) = refl

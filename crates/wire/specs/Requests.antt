@@ -1,11 +1,11 @@
 -- Outline, "Requests": one of five kinds, in an 8-byte record: byte 0 kind, byte 1 desk, byte 2 item, byte 3 zero, bytes 4 to 7 a value.
-use Rattle.std.specs.Prelude.{ℕ, Bool, cond, not, ◌&&◌, ◌||◌, List, [], ◌∷◌, eqb, ltb}
+use Rattle.std.specs.Prelude.{ℕ, Bool, cond, not, ◌&&◌, ◌||◌, List, [], ◌∷◌, Option, Some, None, Result, Ok, Err, eqb, ltb}
 use Rattle.words.specs.Bytes.{byte, word_at}
-use Rattle.wire.specs.Checks.{Check, ◌fails◌, first_failing}
+use Rattle.wire.specs.Checks.{Check, ◌fails◌, first_failing, unless}
 use Rattle.wire.specs.declared.Request.{Request}
 use Rattle.wire.specs.declared.Request.TheVariants.{Begin, Read, Write, End, Abandon}
-use Rattle.wire.specs.declared.Decoded.{Decoded}
-use Rattle.wire.specs.declared.Decoded.TheVariants.{Asked, Malformed}
+use Rattle.wire.specs.declared.Refusal.{Refusal}
+use Rattle.wire.specs.declared.Refusal.TheVariants.{NoSuchKind, NoSuchDesk, UnusedNotZero}
 
 -- 1 begin, 2 read, 3 write, 4 end, 5 abandon
 unfoldable pub request_of : ℕ → ℕ → ℕ → Request
@@ -15,31 +15,37 @@ request_of kind item value =
     (cond (eqb kind 3) (Write item value)
     (cond (eqb kind 4) End Abandon)))
 
+-- of a kind that is none of these there is none
+abbrev pub request_in : ℕ → ℕ → ℕ → Option Request
+request_in kind item value = cond (eqb kind 0 || ltb 5 kind) None (Some (request_of kind item value))
+
 -- fields a kind does not use are zero: the item but of a read or a write, the value but of a write; no kind uses byte 3
 unfoldable pub unused_zero : ℕ → ℕ → ℕ → ℕ → Bool
 unused_zero kind item spare value =
     eqb spare 0 && (eqb kind 2 || eqb kind 3 || eqb item 0) && (eqb kind 3 || eqb value 0)
 
 -- refusals 1 to 3, in that order
-abbrev pub form_checks : List ℕ → List Check
+abbrev pub form_checks : List ℕ → List (Check Refusal)
 form_checks q =
-    (eqb (byte q 0) 0 || ltb 5 (byte q 0)) fails 1
-    ∷ ltb 15 (byte q 1) fails 2
-    ∷ not (unused_zero (byte q 0) (byte q 2) (byte q 3) (word_at q 4)) fails 3
+    (eqb (byte q 0) 0 || ltb 5 (byte q 0)) fails NoSuchKind
+    ∷ ltb 15 (byte q 1) fails NoSuchDesk
+    ∷ not (unused_zero (byte q 0) (byte q 2) (byte q 3) (word_at q 4)) fails UnusedNotZero
     ∷ []
 
-abbrev pub malformed : List ℕ → ℕ
+abbrev pub malformed : List ℕ → Option Refusal
 malformed q = first_failing (form_checks q)
 
--- the desk and its request, or the number of the refusal
+-- what they answer: the desk that asks and its request, or the refusal
+abbrev pub Decoded : Type 0
+Decoded = Result (ℕ × Request) Refusal
+
 unfoldable pub decode : List ℕ → Decoded
-decode q =
-    cond (eqb (malformed q) 0) (Asked (byte q 1) (request_of (byte q 0) (byte q 2) (word_at q 4))) (Malformed (malformed q))
+decode q = unless (malformed q) Err (Ok (byte q 1, request_of (byte q 0) (byte q 2) (word_at q 4)))
 
 -- the desk that asks; what is malformed is refused, which changes no desk, and desk 0 stands in
 abbrev pub desk_of : Decoded → ℕ
-desk_of (Asked d r) = d
-desk_of (Malformed n) = 0
+desk_of (Ok (d, r)) = d
+desk_of (Err n) = 0
 
 -- the value of a write
 abbrev pub value_in : Request → ℕ
@@ -50,5 +56,5 @@ value_in End = 0
 value_in Abandon = 0
 
 abbrev pub value_of : Decoded → ℕ
-value_of (Asked d r) = value_in r
-value_of (Malformed n) = 0
+value_of (Ok (d, r)) = value_in r
+value_of (Err n) = 0
