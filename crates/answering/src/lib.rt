@@ -1,135 +1,135 @@
 // What is answered to a request: checks 4 to 9 in their order, then the locks or the end's validation. The board is only read.
 #![tactic(auto)]
 
-ghost use Rattle.std.specs.Prelude.{◌≡◌, ◌<◌};
-ghost use Rattle.wire.specs.Checks.{first_failing};
-ghost use Rattle.wire.specs.Requests.{desk_of};
+ghost use Rattle.std.specs.Prelude.{◌≡◌};
 ghost use Rattle.wire.specs.declared.Request;
-ghost use Rattle.board.specs.Rules.{item_checks, seen, answered, answer};
+ghost use Rattle.board.specs.Rules.{seen, item_open, allowed, told, answered, answer};
 ghost use Rattle.board.specs.Reached.{Counted};
 
 use board::Board;
-use desks::{Desk, is_open};
+use counters::Age;
+use desks::Desk;
 use ending::end;
-use locking::locked;
-use wire::{Answer, Decoded, Request};
+use locking::Claim;
+use places::{Item, Seat};
+use wire::{Answer, Refusal, Request};
 
 // With the age that the desk keeps from an abort, else with the next one.
-fn begin(b: Board, d: usize) -> Answer
-    requires { d < 16 }
-    ensures { result ≡ answered b d Request.Begin }
+#[tactic(auto, unfolding(board::specs::Rules::answered))]
+fn begin(b: &Board, d: Seat) -> Result<Answer, Refusal>
+    ensures { result ≡ allowed b.now d Request.Begin }
 {
-    let desks = b.desks;
-    if is_open(desks[d]) {
-        return Answer::Refused(4);
+    let k = &b.desks[d.index()];
+    if k.is_open() {
+        return Err(Refusal::AlreadyOpen);
     }
-    let start = b.number;
-    let idle = desks[d];
-    let kept = idle.age;
-    if kept.0 != 0 {
-        return Answer::Opened(kept, start);
+    if k.age != Age::ZERO {
+        return Ok(Answer::Opened(k.age, b.number));
     }
-    let last = b.age;
-    if last.0 >= 2000 {
-        return Answer::Refused(9);
+    if b.age >= Age::LAST {
+        return Err(Refusal::NoAgeLeft);
     }
-    Answer::Opened(last.next(), start)
+    Ok(Answer::Opened(b.age.next(), b.number))
 }
 
 // The desk's own copy if it has written the item, else the board's value.
-fn seen(values: [u32; 64], k: Desk, i: usize) -> u32
-    requires { i < 64 }
-    ensures { result ≡ seen values k i }
+fn seen(values: &[u32; 64], k: &Desk, i: Item) -> u32
+    ensures { result ≡ seen values.now k.now i }
 {
     if k.written.has(i) {
-        let copies = k.copies;
-        return copies[i];
+        k.copies[i.index()]
+    } else {
+        values[i.index()]
     }
-    values[i]
 }
 
-// Checks 5 and 6, which a read and a write share: the number of the first that fails, 0 where none does.
-fn item_refusal(k: Desk, i: u8) -> u8
-    ensures { result ≡ first_failing (item_checks k i) }
+// Checks 5 and 6, which a read and a write share: the item that they may touch.
+fn item_open(k: &Desk, i: u8) -> Result<Item, Refusal>
+    ensures { result ≡ item_open k.now i }
 {
-    if !is_open(k) {
-        return 5;
+    if !k.is_open() {
+        return Err(Refusal::NoneOpen);
     }
-    if i > 63 {
-        return 6;
-    }
-    0
+    let Ok(item) = Item::try_from(i) else {
+        return Err(Refusal::NoSuchItem);
+    };
+    Ok(item)
 }
 
-fn read(b: Board, d: usize, i: u8) -> Answer
-    requires { d < 16 }
-    ensures { result ≡ answered b d (Request.Read i) }
+fn read(b: &Board, d: Seat, i: u8) -> Result<Answer, Refusal>
+    ensures { result ≡ allowed b.now d (Request.Read i) }
 {
-    let desks = b.desks;
-    let k = desks[d];
-    let refused = item_refusal(k, i);
-    if refused != 0 {
-        return Answer::Refused(refused);
-    }
-    let values = b.values;
-    let value = seen(values, k, i as usize);
-    locked(desks, b.guarded, d, i, false, Answer::Value(i, value))
+    let k = &b.desks[d.index()];
+    let item = item_open(k, i)?;
+    let claim = Claim {
+        seat: d,
+        item,
+        writes: false,
+    };
+    let value = seen(&b.values, k, item);
+    Ok(claim.locked(&b.desks, b.guarded, Answer::Value(i, value)))
 }
 
-fn write(b: Board, d: usize, i: u8, v: u32) -> Answer
-    requires { d < 16 }
-    ensures { result ≡ answered b d (Request.Write i v) }
+fn write(b: &Board, d: Seat, i: u8, v: u32) -> Result<Answer, Refusal>
+    ensures { result ≡ allowed b.now d (Request.Write i v) }
 {
-    let desks = b.desks;
-    let refused = item_refusal(desks[d], i);
-    if refused != 0 {
-        return Answer::Refused(refused);
+    let item = item_open(&b.desks[d.index()], i)?;
+    if v < b.floors[item.index()] {
+        return Err(Refusal::BelowFloor);
     }
-    let item = i as usize;
-    let floors = b.floors;
-    if v < floors[item] {
-        return Answer::Refused(7);
+    if v > b.ceilings[item.index()] {
+        return Err(Refusal::AboveCeiling);
     }
-    let ceilings = b.ceilings;
-    if v > ceilings[item] {
-        return Answer::Refused(8);
-    }
-    locked(desks, b.guarded, d, i, true, Answer::Stored(i))
+    let claim = Claim {
+        seat: d,
+        item,
+        writes: true,
+    };
+    Ok(claim.locked(&b.desks, b.guarded, Answer::Stored(i)))
 }
 
-fn abandon(b: Board, d: usize) -> Answer
-    requires { d < 16 }
-    ensures { result ≡ answered b d Request.Abandon }
+fn abandon(b: &Board, d: Seat) -> Result<Answer, Refusal>
+    ensures { result ≡ allowed b.now d Request.Abandon }
 {
-    let desks = b.desks;
-    if !is_open(desks[d]) {
-        return Answer::Refused(5);
+    if b.desks[d.index()].is_open() {
+        Ok(Answer::Abandoned)
+    } else {
+        Err(Refusal::NoneOpen)
     }
-    Answer::Abandoned
+}
+
+// A refusal is an answer too.
+fn told(allowed: Result<Answer, Refusal>) -> Answer
+    ensures { result ≡ told allowed }
+{
+    match allowed {
+        Ok(answer) => answer,
+        Err(refusal) => Answer::Refused(refusal),
+    }
 }
 
 // By the kind of the request.
-fn answered(b: Board, d: usize, r: Request) -> Answer
-    requires d_bound { d < 16 }
-    requires counted { Counted b }
-    ensures { result ≡ answered b d r }
+#[tactic(auto, unfolding(board::specs::Rules::answered))]
+fn answered(b: &Board, d: Seat, request: Request) -> Answer
+    requires { Counted b.now }
+    ensures { result ≡ answered b.now d request }
 {
-    match r {
-        Request::Begin => begin(b, d),
-        Request::Read(i) => read(b, d, i),
-        Request::Write(i, v) => write(b, d, i, v),
+    match request {
+        Request::Begin => told(begin(b, d)),
+        Request::Read(i) => told(read(b, d, i)),
+        Request::Write(i, v) => told(write(b, d, i, v)),
         Request::End => end(b, d),
-        Request::Abandon => abandon(b, d),
+        Request::Abandon => told(abandon(b, d)),
     }
 }
 
-pub fn answer(b: Board, asked: Decoded) -> Answer
-    requires asked_bound { desk_of asked < 16 }
-    requires counted { Counted b }
-    ensures { result ≡ answer b asked }
+#[tactic(auto, unfolding(board::specs::Rules::answer))]
+pub fn answer(b: &Board, asked: &Result<(Seat, Request), Refusal>) -> Answer
+    requires { Counted b.now }
+    ensures { result ≡ answer b.now asked.now }
 {
     match asked {
-        Decoded::Malformed(n) => Answer::Refused(n),
-        Decoded::Asked(d, r) => answered(b, d as usize, r),
+        Ok((d, request)) => answered(b, *d, *request),
+        Err(refusal) => Answer::Refused(*refusal),
     }
 }

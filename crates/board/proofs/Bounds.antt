@@ -2,9 +2,8 @@
 use mathlib.Core.List.{List}
 use Prim.Native.Nat.{ℕ, ◌<◌}
 use native.Mathlib.Nat.{zero-lt-suc}
-use Rattle.wire.specs.Requests.{decode, desk_of}
+use Rattle.wire.specs.Requests.{Decoded, decode, desk_of}
 use Rattle.wire.specs.Answers.{item_of}
-use Rattle.wire.specs.declared.Decoded.{Decoded}
 use Rattle.wire.specs.declared.Answer.{Answer}
 use Rattle.wire.specs.declared.Answer.TheVariants.{Refused, Opened, Value, Stored, Wait, Committed, Abandoned, Aborted}
 use Rattle.wire.proofs.Forms.{Shape, bad, good, shape}

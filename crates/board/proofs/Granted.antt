@@ -6,20 +6,19 @@ use Prim.Native.Nat.{ℕ, ◌+◌, ◌-◌, ◌<◌, ◌≤◌, suc-le-suc}
 use native.Mathlib.Nat.{le_refl}
 use native.Mathlib.Omega.{arith}
 use borrow.Author.Tests.{eqb-true, ltb-true, ltb-false, ne_eqb, not-false}
-use lib.Dec.{T, eqb, ltb, leb}
+use lib.Dec.{ltb, leb}
 use Rattle.items.specs.Items.{has}
-use Rattle.items.proofs.Tests.{by_cond, clash, or_left}
+use Rattle.items.proofs.Tests.{clash, or_left}
 use Rattle.items.proofs.Laws.{empty-has, common-none}
 use Rattle.counters.specs.declared.Age.{Age}
 use Rattle.counters.specs.declared.Number.{Number}
-use Rattle.wire.specs.Requests.{desk_of}
+use Rattle.std.specs.Prelude.{None, Ok, Err}
+use Rattle.wire.specs.Requests.{Decoded, desk_of}
 use Rattle.wire.specs.declared.Request.{Request}
 use Rattle.wire.specs.declared.Request.TheVariants.{Begin, Read, Write, End, Abandon}
-use Rattle.wire.specs.declared.Decoded.{Decoded}
-use Rattle.wire.specs.declared.Decoded.TheVariants.{Asked, Malformed}
 use Rattle.wire.specs.declared.Answer.{Answer}
 use Rattle.wire.specs.declared.Answer.TheVariants.{Refused, Opened, Value, Stored, Wait, Committed, Abandoned, Aborted}
-use Rattle.wire.proofs.Checks.{Passed, numbered, all_passed}
+use Rattle.wire.proofs.Checks.{Passed, all_passed, unless_ways}
 use Rattle.desks.specs.Desks.{conflicts, in_the_way, holder, locked, is_open, ageless}
 use Rattle.board.specs.Rules.{seen, desk_at, is_guarded, checks, refusal, write_set, first_stale, ended, age_for, granted, answered, answer}
 use Rattle.desks.specs.declared.Desk.{Desk}
@@ -130,16 +129,9 @@ is_open_lem k e = not-false (is_open k) e
 pub low_item : (i : ℕ) → ltb 63 i ≡ false → i < 64
 low_item i e = suc-le-suc (ltb-false 63 i e)
 
-checks_numbered : (b : Board) (d : ℕ) (r : Request) → T (numbered (checks b d r))
-checks_numbered b d Begin = tt
-checks_numbered b d (Read i) = tt
-checks_numbered b d (Write i v) = tt
-checks_numbered b d End = tt
-checks_numbered b d Abandon = tt
-
 -- what is not refused passed each check
-pub checks_passed : (b : Board) (d : ℕ) (r : Request) → eqb (refusal b d r) 0 ≡ true → Passed (checks b d r)
-checks_passed b d r e = all_passed (checks b d r) (checks_numbered b d r) (eqb-true (refusal b d r) 0 e)
+pub checks_passed : (b : Board) (d : ℕ) (r : Request) → refusal b d r ≡ None → Passed (checks b d r)
+checks_passed b d r e = all_passed (checks b d r) e
 
 granted-granted : (b : Board) (d : ℕ) (r : Request) → Passed (checks b d r) → Granted b d (granted b d r)
 granted-granted b d Begin p = record { closed = p.0; left = p.1.0; given = refl; start = refl }
@@ -158,10 +150,9 @@ granted-granted b d Abandon p = is_open_lem (desk_at b d) p.0
 pub answered-granted : (b : Board) (d : ℕ) (r : Request) → Granted b d (answered b d r)
 unfolding answered
 answered-granted b d r =
-    by_cond (Granted b d) (eqb (refusal b d r) 0)
-    (λ e. granted-granted b d r (checks_passed b d r e)) (λ e. tt)
+    unless_ways (Granted b d) (refusal b d r) (λ n e. tt) (λ e. granted-granted b d r (checks_passed b d r e))
 
 pub answer-granted : (b : Board) (q : Decoded) → Granted b (desk_of q) (answer b q)
 unfolding answer
-answer-granted b (Malformed n) = tt
-answer-granted b (Asked d r) = answered-granted b d r
+answer-granted b (Err n) = tt
+answer-granted b (Ok (d, r)) = answered-granted b d r

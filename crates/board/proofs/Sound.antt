@@ -14,8 +14,7 @@ use Rattle.counters.specs.Counters.{no_age, next_age, no_number}
 use Rattle.counters.specs.declared.Age.{Age}
 use Rattle.counters.specs.declared.Number.{Number}
 use Rattle.table.specs.Table.{value_at, floor_at, ceiling_at}
-use Rattle.wire.specs.Requests.{decode, desk_of, value_of}
-use Rattle.wire.specs.declared.Decoded.{Decoded}
+use Rattle.wire.specs.Requests.{Decoded, decode, desk_of, value_of}
 use Rattle.wire.specs.declared.Answer.{Answer}
 use Rattle.wire.specs.declared.Answer.TheVariants.{Refused, Opened, Value, Stored, Wait, Committed, Abandoned, Aborted}
 use Rattle.desks.specs.Desks.{idle, opened, beyond, desk_in, ageless, copy_of}

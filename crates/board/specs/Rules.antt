@@ -1,18 +1,19 @@
 -- The outline's rules: what is answered to a request, and the board after it. The answer comes first, and changes nothing;
 -- the board follows the answer, and decides nothing.
-use Rattle.std.specs.Prelude.{ℕ, zero, suc, ◌+◌, ◌-◌, ◌%◌, Bool, true, false, cond, not, ◌&&◌, List, [], ◌∷◌, ◌++◌, get_or, set, eqb, ltb, leb}
+use Rattle.std.specs.Prelude.{ℕ, zero, suc, ◌+◌, ◌-◌, ◌%◌, Bool, true, false, cond, not, ◌&&◌, List, [], ◌∷◌, ◌++◌, get_or, set, Option, Some, None, Result, Ok, Err, ltb, leb}
 use Rattle.items.specs.First.{first}
 use Rattle.items.specs.Items.{none, has, with, without, common, empty, lowest}
 use Rattle.items.specs.declared.Items.{Items}
 use Rattle.counters.specs.Counters.{no_age, next_age, next_number}
 use Rattle.counters.specs.declared.Age.{Age}
 use Rattle.counters.specs.declared.Number.{Number}
-use Rattle.wire.specs.Checks.{Check, ◌fails◌, first_failing}
-use Rattle.wire.specs.Requests.{decode, desk_of, value_of}
+use Rattle.wire.specs.Checks.{Check, ◌fails◌, first_failing, unless}
+use Rattle.wire.specs.Requests.{Decoded, decode, desk_of, value_of}
 use Rattle.wire.specs.declared.Request.{Request}
 use Rattle.wire.specs.declared.Request.TheVariants.{Begin, Read, Write, End, Abandon}
-use Rattle.wire.specs.declared.Decoded.{Decoded}
-use Rattle.wire.specs.declared.Decoded.TheVariants.{Asked, Malformed}
+use Rattle.wire.specs.declared.Refusal.{Refusal}
+use Rattle.wire.specs.declared.Refusal.TheVariants.{AlreadyOpen, NoneOpen, NoSuchItem, BelowFloor, AboveCeiling, NoAgeLeft}
+use Rattle.wire.specs.declared.Reason.{Reason}
 use Rattle.wire.specs.declared.Reason.TheVariants.{Overwritten, TooOld}
 use Rattle.wire.specs.declared.Answer.{Answer}
 use Rattle.wire.specs.declared.Answer.TheVariants.{Refused, Opened, Value, Stored, Wait, Committed, Abandoned, Aborted}
@@ -32,19 +33,23 @@ is_guarded b i = has b.guarded i
 -- ---- refusals 4 to 9, in their order
 
 -- a read or a write with none open, or of an item above 63
-abbrev pub item_checks : Desk → ℕ → List Check
-item_checks k i = not (is_open k) fails 5 ∷ ltb 63 i fails 6 ∷ []
+abbrev pub item_checks : Desk → ℕ → List (Check Refusal)
+item_checks k i = not (is_open k) fails NoneOpen ∷ ltb 63 i fails NoSuchItem ∷ []
+
+-- the item that it may touch
+abbrev pub item_open : Desk → ℕ → Result ℕ Refusal
+item_open k i = unless (first_failing (item_checks k i)) Err (Ok i)
 
 -- 9 is for a begin that needs a new age
-abbrev pub checks : Board → ℕ → Request → List Check
-checks b d Begin = is_open (desk_at b d) fails 4 ∷ (ageless (desk_at b d) && leb 2000 b.age.0) fails 9 ∷ []
+abbrev pub checks : Board → ℕ → Request → List (Check Refusal)
+checks b d Begin = is_open (desk_at b d) fails AlreadyOpen ∷ (ageless (desk_at b d) && leb 2000 b.age.0) fails NoAgeLeft ∷ []
 checks b d (Read i) = item_checks (desk_at b d) i
 checks b d (Write i v) =
-    item_checks (desk_at b d) i ++ (ltb v (get_or b.floors i 0) fails 7 ∷ ltb (get_or b.ceilings i 0) v fails 8 ∷ [])
-checks b d End = not (is_open (desk_at b d)) fails 5 ∷ []
-checks b d Abandon = not (is_open (desk_at b d)) fails 5 ∷ []
+    item_checks (desk_at b d) i ++ (ltb v (get_or b.floors i 0) fails BelowFloor ∷ ltb (get_or b.ceilings i 0) v fails AboveCeiling ∷ [])
+checks b d End = not (is_open (desk_at b d)) fails NoneOpen ∷ []
+checks b d Abandon = not (is_open (desk_at b d)) fails NoneOpen ∷ []
 
-abbrev pub refusal : Board → ℕ → Request → ℕ
+abbrev pub refusal : Board → ℕ → Request → Option Refusal
 refusal b d r = first_failing (checks b d r)
 
 -- ---- the begin
@@ -70,15 +75,19 @@ shares sets read n = not (empty (common (write_set sets n) read))
 unfoldable pub first_stale : List Items → Items → ℕ → ℕ → ℕ
 first_stale sets read start last = start + 1 + first (last - start) (λ k. shares sets read (start + 1 + k))
 
+-- why an end is overwritten, if it is: that item, the lowest where there are more, and that number
+abbrev pub overwritten : List Items → Items → ℕ → ℕ → Option Reason
+overwritten sets read start last =
+    let stale = first_stale sets read start last in
+    cond (ltb last stale) None (Some (Overwritten (lowest (common (write_set sets stale) read)) (record { 0 = stale })))
+
 -- validation of a desk's record k, at last number n
 abbrev pub ended : List Items → Number → Desk → Answer
 ended sets n k =
-    let stale = first_stale sets k.read k.start.0 n.0 in
     let commit : Answer = Committed (next_number n) in
     cond (empty k.read) commit
     (cond (ltb 16 (n.0 - k.start.0)) (Aborted (TooOld k.start))
-    (cond (ltb n.0 stale) commit
-    (Aborted (Overwritten (lowest (common (write_set sets stale) k.read)) (record { 0 = stale })))))
+    (unless (overwritten sets k.read k.start.0 n.0) Aborted commit))
 
 -- ---- the answer
 
@@ -93,15 +102,22 @@ granted b d (Write i v) = locked b.desks b.guarded d i true (Stored i)
 granted b d End = ended b.sets b.number (desk_at b d)
 granted b d Abandon = Abandoned
 
+-- what passes its checks is granted, else it is refused
+abbrev pub allowed : Board → ℕ → Request → Result Answer Refusal
+allowed b d r = unless (refusal b d r) Err (Ok (granted b d r))
+
+-- a refusal is an answer too
+abbrev pub told : Result Answer Refusal → Answer
+told (Ok a) = a
+told (Err n) = Refused n
+
 -- to request r of desk d
 unfoldable pub answered : Board → ℕ → Request → Answer
-answered b d r =
-    let n = refusal b d r in
-    cond (eqb n 0) (granted b d r) (Refused n)
+answered b d r = unless (refusal b d r) Refused (granted b d r)
 
 unfoldable pub answer : Board → Decoded → Answer
-answer b (Malformed n) = Refused n
-answer b (Asked d r) = answered b d r
+answer b (Err r) = Refused r
+answer b (Ok (d, r)) = answered b d r
 
 -- ---- the board after it
 
@@ -191,11 +207,11 @@ follow b q (Aborted w) = put b (desk_of q) (idle (desk_at b (desk_of q)).age)
 
 -- ---- one request
 
-abbrev pub stepped : Board → Decoded → Stepped
+abbrev pub stepped : Board → Decoded → Stepped Board
 stepped b q = let a = answer b q in record { board = follow b q a; answer = a }
 
 -- of 8 bytes
-unfoldable pub step : Board → List ℕ → Stepped
+unfoldable pub step : Board → List ℕ → Stepped Board
 step b bytes = stepped b (decode bytes)
 
 -- of a run

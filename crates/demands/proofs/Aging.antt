@@ -6,19 +6,18 @@ use mathlib.Core.Bool.{true, false}
 use mathlib.Core.List.{List, [], ◌∷◌}
 use Prim.Native.Nat.{ℕ, ◌<◌}
 use native.Mathlib.Omega.{arith}
-use borrow.Author.Tests.{eq-eqb}
+use borrow.Author.Tests.{eq-eqb, ne_eqb}
 use lib.Dec.{eqb}
 use lib.ListN.{set, length}
 use lib.Seq.{get_or-set_same, get_or-set_other}
+use Rattle.std.specs.Prelude.{Ok, Err}
 use Rattle.items.proofs.Tests.{by_cond, by_equal, clash}
 use Rattle.runs.specs.Runs.{after}
 use Rattle.counters.specs.Counters.{no_age, next_age}
 use Rattle.counters.specs.declared.Age.{Age}
-use Rattle.wire.specs.Requests.{decode, desk_of}
+use Rattle.wire.specs.Requests.{Decoded, decode, desk_of}
 use Rattle.wire.specs.declared.Request.{Request}
 use Rattle.wire.specs.declared.Request.TheVariants.{Begin, Read, Write, End, Abandon}
-use Rattle.wire.specs.declared.Decoded.{Decoded}
-use Rattle.wire.specs.declared.Decoded.TheVariants.{Asked, Malformed}
 use Rattle.wire.specs.declared.Answer.{Answer}
 use Rattle.wire.specs.declared.Reason.{Reason}
 use Rattle.wire.specs.declared.Reason.TheVariants.{Yield}
@@ -34,7 +33,6 @@ use Rattle.board.specs.declared.Board.{Board}
 use Rattle.board.proofs.Sound.{Sound}
 use Rattle.board.proofs.Granted.{Granted, answer-granted}
 use Rattle.board.proofs.Bounds.{desk_low}
-use Rattle.board.proofs.Decided.{begin_kept}
 use Rattle.board.proofs.Reached.{run_sound}
 use Rattle.demands.proofs.Done.{desk_now, kind, desks_after}
 use Rattle.demands.proofs.Named.{way_open, names_the_oldest}
@@ -57,8 +55,8 @@ module _ (b : Board) (q : Decoded) where
 
 unasked : (b : Board) (q : Decoded) (d : ℕ) → is_from q d ≡ false → desk_at (after_one b q) d ≡ desk_at b d
 unfolding follow answer
-unasked b (Malformed n) d f = refl
-unasked b (Asked e r) d f = other_now b (Asked e r) d (λ same. clash (eq-eqb e d (sym same)) f)
+unasked b (Err n) d f = refl
+unasked b (Ok (e, r)) d f = other_now b (Ok (e, r)) d (λ same. clash (eq-eqb e d (sym same)) f)
 
 left_alone : (b : Board) (d : ℕ) (qs : List (List ℕ)) → NoneFrom d qs → desk_at (after next b qs) d ≡ desk_at b d
 unfolding step
@@ -67,7 +65,8 @@ left_alone b d (q ∷ qs) n = left_alone (next b q) d qs n.1 ∙ unasked b (deco
 
 -- a desk that keeps an age begins with it
 kept_begins : (b : Board) (d : ℕ) (a : Age) → desk_at b d ≡ idle a → (a.0 ≡ 0 → ⊥) → answered b d Begin ≡ Opened a b.number
-kept_begins b d a e some = sym (begin_kept b d (rw e) (rw e some)) ∙ rw e
+unfolding answered
+kept_begins b d a e some = rw (e, ne_eqb a.0 0 some)
 
 -- ---- an aborted desk
 

@@ -11,9 +11,8 @@ use Rattle.items.proofs.Tests.{clash}
 use Rattle.counters.specs.Counters.{no_age}
 use Rattle.counters.specs.declared.Age.{Age}
 use Rattle.counters.specs.declared.Number.{Number}
-use Rattle.wire.specs.Requests.{decode, desk_of, value_of}
+use Rattle.wire.specs.Requests.{Decoded, decode, desk_of, value_of}
 use Rattle.wire.specs.declared.Request.{Request}
-use Rattle.wire.specs.declared.Decoded.{Decoded}
 use Rattle.wire.specs.declared.Answer.{Answer}
 use Rattle.wire.specs.declared.Answer.TheVariants.{Refused, Opened, Value, Stored, Wait, Committed, Abandoned, Aborted}
 use Rattle.desks.specs.Desks.{beyond, idle, opened, copy_of}

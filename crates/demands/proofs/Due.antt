@@ -4,10 +4,11 @@ use mathlib.Core.Bool.{true, false}
 use Prim.Native.Nat.{ℕ}
 use borrow.Author.Tests.{eq-eqb}
 use lib.Dec.{eqb}
+use Rattle.wire.proofs.Checks.{unless_ways}
+use Rattle.std.specs.Prelude.{Ok}
 use Rattle.items.proofs.Tests.{by_cond}
 use Rattle.wire.specs.declared.Request.{Request}
 use Rattle.wire.specs.declared.Request.TheVariants.{Begin, Read, Write, End, Abandon}
-use Rattle.wire.specs.declared.Decoded.TheVariants.{Asked}
 use Rattle.wire.specs.declared.Answer.{Answer}
 use Rattle.wire.specs.declared.Answer.TheVariants.{Refused, Opened, Value, Stored, Wait, Committed, Abandoned, Aborted}
 use Rattle.board.specs.Rules.{seen, desk_at, refusal, granted, answered, answer}
@@ -36,6 +37,6 @@ module _ (b : Board) (d : ℕ) where
   granted_due End = ended_ways (Due End) b.sets b.number (desk_at b d) (λ unread. refl) tt (λ recent fresh. refl) tt
   granted_due Abandon = tt
 
-  pub due : (r : Request) → Due r (answer b (Asked d r))
+  pub due : (r : Request) → Due r (answer b (Ok (d, r)))
   unfolding answered answer
-  due r = by_cond (Due r) (eqb (refusal b d r) 0) (λ passed. granted_due r) (λ refused. tt)
+  due r = unless_ways (Due r) (refusal b d r) (λ n refused. tt) (λ passed. granted_due r)

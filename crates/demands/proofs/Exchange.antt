@@ -5,13 +5,12 @@ use mathlib.Core.List.{List}
 use Prim.Native.Nat.{ℕ}
 use borrow.Author.Tests.{eq-eqb}
 use lib.Dec.{eqb}
+use Rattle.std.specs.Prelude.{Ok}
 use Rattle.items.proofs.Tests.{by_test, clash, and_in, and_not_right}
 use Rattle.runs.proofs.Neighbours.{Commute, turned, exchanged}
 use Rattle.words.specs.Bytes.{byte}
-use Rattle.wire.specs.Requests.{decode}
+use Rattle.wire.specs.Requests.{Decoded, decode}
 use Rattle.wire.specs.declared.Request.{Request}
-use Rattle.wire.specs.declared.Decoded.{Decoded}
-use Rattle.wire.specs.declared.Decoded.TheVariants.{Asked}
 use Rattle.wire.specs.declared.Answer.{Answer}
 use Rattle.wire.proofs.Forms.{wanted, Shape, bad, good, shape}
 use Rattle.board.specs.Rules.{answer, follow, stepped, step, next, reply}
@@ -32,22 +31,22 @@ says b x = (stepped b x).answer
 
 module _ (b : Board) where
   -- the second is no begin and no end
-  within : (d : ℕ) (r : Request) (e : ℕ) (s : Request) → Parted b d r e s → bound s ≡ false → Commute does says b (Asked d r) (Asked e s)
+  within : (d : ℕ) (r : Request) (e : ℕ) (s : Request) → Parted b d r e s → bound s ≡ false → Commute does says b (Ok (d, r)) (Ok (e, s))
   within d r e s c f =
-      let a = answer b (Asked d r) in
-      let x = answer b (Asked e s) in
+      let a = answer b (Ok (d, r)) in
+      let x = answer b (Ok (e, s)) in
       let one = answer_kept b e s d r (flip c) x (due b e s) in
       let two = answer_kept b d r e s c a (due b d r) in
       record {
         board =
-            ap (follow (follow b (Asked e s) x) (Asked d r)) one
+            ap (follow (follow b (Ok (e, s)) x) (Ok (d, r))) one
             ∙ board_kept b d r e s c a (due b d r) f x (due b e s)
-            ∙ sym (ap (follow (follow b (Asked d r) a) (Asked e s)) two);
+            ∙ sym (ap (follow (follow b (Ok (d, r)) a) (Ok (e, s))) two);
         first = one;
         second = two;
       }
 
-  asked : (d : ℕ) (r : Request) (e : ℕ) (s : Request) → Parted b d r e s → Commute does says b (Asked d r) (Asked e s)
+  asked : (d : ℕ) (r : Request) (e : ℕ) (s : Request) → Parted b d r e s → Commute does says b (Ok (d, r)) (Ok (e, s))
   asked d r e s c =
       by_test (bound s)
       (λ t. turned (within e s d r (flip c) (and_not_right (bound r) (bound s) c.ends t)))

@@ -7,6 +7,7 @@ use native.Mathlib.Nat.{le_refl}
 use native.Mathlib.Omega.{arith}
 use borrow.Author.Tests.{eq-eqb, ltb-true, ltb-false}
 use lib.Dec.{eqb, ltb}
+use Rattle.wire.proofs.Checks.{unless_ways}
 use Rattle.items.proofs.Tests.{by_test, by_cond, clash, and_left, and_right}
 use Rattle.wire.specs.declared.Request.{Request}
 use Rattle.wire.specs.declared.Request.TheVariants.{Begin, Read, Write, End, Abandon}
@@ -100,7 +101,7 @@ module _ {b : Board} (sound : Sound b) (d : ℕ) where
   answered_names : (r : Request) → NamesHolder b d r (answered b d r)
   unfolding answered
   answered_names r =
-      by_cond (NamesHolder b d r) (eqb (refusal b d r) 0) (λ passed. granted_names r) (λ refused. tt)
+      unless_ways (NamesHolder b d r) (refusal b d r) (λ n refused. tt) (λ passed. granted_names r)
 
 pub names_the_oldest : NamesTheOldest
 unfolding step answer

@@ -6,13 +6,13 @@ use mathlib.Core.List.{List}
 use Prim.Native.Nat.{ℕ, ◌<◌}
 use lib.ListN.{get_or, length}
 use lib.Seq.{get_or-set_same, get_or-set_other}
+use Rattle.std.specs.Prelude.{Ok}
 use Rattle.items.specs.Items.{has}
 use Rattle.items.specs.declared.Items.{Items}
 use Rattle.items.proofs.Tests.{by_cond, by_equal, clash, and_not_right, or_left, or_right}
 use Rattle.items.proofs.Laws.{has-none, with_other, has-without}
 use Rattle.wire.specs.Requests.{value_of}
 use Rattle.wire.specs.declared.Request.{Request}
-use Rattle.wire.specs.declared.Decoded.TheVariants.{Asked}
 use Rattle.wire.specs.declared.Answer.{Answer}
 use Rattle.wire.specs.declared.Answer.TheVariants.{Refused, Opened, Value, Stored, Wait, Committed, Abandoned, Aborted}
 use Rattle.desks.specs.Desks.{beyond}
@@ -58,7 +58,7 @@ pub record Parted (b : Board) (d : ℕ) (r : Request) (e : ℕ) (s : Request) : 
   pub second : e < length b.desks
   pub desks : d ≢ e
   pub ends : (bound r && bound s) ≡ false
-  pub items : (i : ℕ) → i < 64 → (concerns b (Asked d r) i && concerns b (Asked e s) i) ≡ false
+  pub items : (i : ℕ) → i < 64 → (concerns b (Ok (d, r)) i && concerns b (Ok (e, s)) i) ≡ false
 
 pub flip : {b : Board} {d : ℕ} {r : Request} {e : ℕ} {s : Request} → Parted b d r e s → Parted b e s d r
 flip {b} {d} {r} {e} {s} c =
@@ -67,37 +67,37 @@ flip {b} {d} {r} {e} {s} c =
       second = c.first;
       desks = λ p. c.desks (sym p);
       ends = and_comm (bound s) (bound r) ∙ c.ends;
-      items = λ i h. and_comm (concerns b (Asked e s) i) (concerns b (Asked d r) i) ∙ c.items i h;
+      items = λ i h. and_comm (concerns b (Ok (e, s)) i) (concerns b (Ok (d, r)) i) ∙ c.items i h;
     }
 
 -- what desk e's request sees after desk d's is as before
 module _ (b : Board) (d : ℕ) (r : Request) (e : ℕ) (s : Request) (c : Parted b d r e s) (a : Answer) (fit : Due r a) where
   -- the board after desk d's request, and its desk's record
   abbrev then : Board
-  then = follow b (Asked d r) a
+  then = follow b (Ok (d, r)) a
 
   abbrev now : Desk
-  now = desk_now b (Asked d r) a
+  now = desk_now b (Ok (d, r)) a
 
   elsewhere : (k : ℕ) → k ≢ d → desk_at b k ≡ desk_at then k
   elsewhere k ne =
-      sym (ap (λ (ds : List Desk). get_or ds k beyond) (desks_after b (Asked d r) a (kind a)) ∙ get_or-set_other b.desks d k now beyond ne)
+      sym (ap (λ (ds : List Desk). get_or ds k beyond) (desks_after b (Ok (d, r)) a (kind a)) ∙ get_or-set_other b.desks d k now beyond ne)
 
   itself : desk_at then d ≡ now
   itself =
-      ap (λ (ds : List Desk). get_or ds d beyond) (desks_after b (Asked d r) a (kind a)) ∙ get_or-set_same b.desks d now beyond c.first
+      ap (λ (ds : List Desk). get_or ds d beyond) (desks_after b (Ok (d, r)) a (kind a)) ∙ get_or-set_same b.desks d now beyond c.first
 
   -- item i concerns s, so it does not concern r
-  module _ (i : ℕ) (low : i < 64) (concerned : concerns b (Asked e s) i ≡ true) where
-    unconcerned : concerns b (Asked d r) i ≡ false
-    unconcerned = and_not_right (concerns b (Asked d r) i) (concerns b (Asked e s) i) (c.items i low) concerned
+  module _ (i : ℕ) (low : i < 64) (concerned : concerns b (Ok (e, s)) i ≡ true) where
+    unconcerned : concerns b (Ok (d, r)) i ≡ false
+    unconcerned = and_not_right (concerns b (Ok (d, r)) i) (concerns b (Ok (e, s)) i) (c.items i low) concerned
 
     clear_before : Untouched (desk_at b d) i
     clear_before = untouched (desk_at b d) i (or_left (touched (desk_at b d) i) (names r i) unconcerned)
 
     clear_after : Untouched now i
     clear_after =
-        still_untouched r b.guarded (desk_at b d) i (value_of (Asked d r)) clear_before
+        still_untouched r b.guarded (desk_at b d) i (value_of (Ok (d, r))) clear_before
         (or_right (touched (desk_at b d) i) (names r i) unconcerned) a fit
 
     unmoved : (k : ℕ) → Unmoved i (desk_at b k) (desk_at then k)
@@ -110,8 +110,8 @@ module _ (b : Board) (d : ℕ) (r : Request) (e : ℕ) (s : Request) (c : Parted
     alike_at : AlikeAt b then i
     alike_at =
         record {
-          guarded = ap (λ (g : Items). has g i) (guarded_after b (Asked d r) a (kind a));
-          value = value_after b (Asked d r) i clear_before.written a (kind a);
+          guarded = ap (λ (g : Items). has g i) (guarded_after b (Ok (d, r)) a (kind a));
+          value = value_after b (Ok (d, r)) i clear_before.written a (kind a);
           desks = unmoved;
         }
 
@@ -119,23 +119,23 @@ module _ (b : Board) (d : ℕ) (r : Request) (e : ℕ) (s : Request) (c : Parted
   alike =
       record {
         desk = elsewhere e (λ p. c.desks (sym p));
-        ranges_same = ranges_after b (Asked d r) a (kind a);
+        ranges_same = ranges_after b (Ok (d, r)) a (kind a);
         at = alike_at;
-        counts_same = λ t. counts_after b (Asked d r) r a fit (and_not_right (bound r) (bound s) c.ends t);
+        counts_same = λ t. counts_after b (Ok (d, r)) r a fit (and_not_right (bound r) (bound s) c.ends t);
       }
 
   -- so its answer is the same, and its desk's record after it
-  pub answer_kept : answer then (Asked e s) ≡ answer b (Asked e s)
+  pub answer_kept : answer then (Ok (e, s)) ≡ answer b (Ok (e, s))
   answer_kept = sym (answer_same b then e s alike)
 
-  record_kept : (x : Answer) → desk_now b (Asked e s) x ≡ desk_now then (Asked e s) x
-  record_kept x = ap₂ (λ (g : Items) (k : Desk). desk_after g k (value_of (Asked e s)) x) (guarded_after b (Asked d r) a (kind a)) alike.desk
+  record_kept : (x : Answer) → desk_now b (Ok (e, s)) x ≡ desk_now then (Ok (e, s)) x
+  record_kept x = ap₂ (λ (g : Items) (k : Desk). desk_after g k (value_of (Ok (e, s))) x) (guarded_after b (Ok (d, r)) a (kind a)) alike.desk
 
   -- the board after both, where s is no begin and no end
-  pub board_kept : bound s ≡ false → (x : Answer) → Due s x → follow (follow b (Asked e s) x) (Asked d r) a ≡ follow then (Asked e s) x
+  pub board_kept : bound s ≡ false → (x : Answer) → Due s x → follow (follow b (Ok (e, s)) x) (Ok (d, r)) a ≡ follow then (Ok (e, s)) x
   board_kept within x fit' =
       let h : Own x = own_of s x fit' within in
-      ap (λ (y : Board). follow y (Asked d r) a) (h b (Asked e s))
-      ∙ follow_put b (Asked d r) e (desk_now b (Asked e s) x) c.desks a (kind a)
+      ap (λ (y : Board). follow y (Ok (d, r)) a) (h b (Ok (e, s)))
+      ∙ follow_put b (Ok (d, r)) e (desk_now b (Ok (e, s)) x) c.desks a (kind a)
       ∙ ap (put then e) (record_kept x)
-      ∙ sym (h then (Asked e s))
+      ∙ sym (h then (Ok (e, s)))

@@ -7,8 +7,7 @@ use lib.ListN.{get_or-replicate}
 use Rattle.items.specs.Items.{none}
 use Rattle.items.proofs.Laws.{has-none}
 use Rattle.runs.specs.Runs.{after, answers}
-use Rattle.wire.specs.Requests.{decode, desk_of, value_of}
-use Rattle.wire.specs.declared.Decoded.{Decoded}
+use Rattle.wire.specs.Requests.{Decoded, decode, desk_of, value_of}
 use Rattle.wire.specs.declared.Answer.{Answer}
 use Rattle.wire.specs.declared.Answer.TheVariants.{Refused, Opened, Value, Stored, Wait, Committed, Abandoned, Aborted}
 use Rattle.counters.specs.Counters.{no_age, no_number}

@@ -6,15 +6,18 @@ use Prim.Native.Nat.{ℕ, ◌<◌}
 use borrow.Author.Tests.{eq-eqb}
 use lib.ListN.{get_or}
 use lib.Dec.{eqb, ltb, leb}
+use Rattle.wire.specs.declared.Refusal.{Refusal}
+use Rattle.wire.specs.declared.Refusal.TheVariants.{AlreadyOpen, NoAgeLeft}
+use Rattle.wire.proofs.Checks.{unless_same}
+use Rattle.std.specs.Prelude.{Ok, None, Option}
 use Rattle.items.specs.Items.{has}
 use Rattle.items.specs.declared.Items.{Items}
 use Rattle.items.proofs.Tests.{clash, cond_same, and_right, or_left, or_right, or_in_right}
 use Rattle.counters.specs.declared.Age.{Age}
 use Rattle.counters.specs.declared.Number.{Number}
-use Rattle.wire.specs.Checks.{◌fails◌, first_failing}
+use Rattle.wire.specs.Checks.{◌fails◌, first_failing, unless}
 use Rattle.wire.specs.declared.Request.{Request}
 use Rattle.wire.specs.declared.Request.TheVariants.{Begin, Read, Write, End, Abandon}
-use Rattle.wire.specs.declared.Decoded.TheVariants.{Asked}
 use Rattle.wire.specs.declared.Reason.TheVariants.{Yield}
 use Rattle.wire.specs.declared.Answer.{Answer}
 use Rattle.wire.specs.declared.Answer.TheVariants.{Refused, Opened, Value, Wait, Aborted}
@@ -71,7 +74,7 @@ counts b = (b.age, b.number, b.sets)
 pub record Alike (b c : Board) (d : ℕ) (r : Request) : Type 0 where
   pub desk : desk_at b d ≡ desk_at c d
   pub ranges_same : ranges b ≡ ranges c
-  pub at : (i : ℕ) → i < 64 → concerns b (Asked d r) i ≡ true → AlikeAt b c i
+  pub at : (i : ℕ) → i < 64 → concerns b (Ok (d, r)) i ≡ true → AlikeAt b c i
   pub counts_same : bound r ≡ true → counts b ≡ counts c
 
 -- ---- locks
@@ -121,14 +124,14 @@ module _ (b c : Board) (d : ℕ) where
 
   refusal_same : (r : Request) → Alike b c d r → refusal b d r ≡ refusal c d r
   refusal_same Begin a =
-      ap₂ (λ (k : Desk) (n : Counts). first_failing (is_open k fails 4 ∷ (ageless k && leb 2000 n.0.0) fails 9 ∷ [])) a.desk (a.counts_same refl)
+      ap₂ (λ (k : Desk) (n : Counts). first_failing (is_open k fails AlreadyOpen ∷ (ageless k && leb 2000 n.0.0) fails NoAgeLeft ∷ [])) a.desk (a.counts_same refl)
   refusal_same (Read i) a = rw a.desk
   refusal_same (Write i v) a =
       rw (a.desk, ap (λ (t : Ranges). t.0) a.ranges_same, ap (λ (t : Ranges). t.1) a.ranges_same)
   refusal_same End a = rw a.desk
   refusal_same Abandon a = rw a.desk
 
-  granted_same : (r : Request) → Alike b c d r → eqb (refusal b d r) 0 ≡ true → granted b d r ≡ granted c d r
+  granted_same : (r : Request) → Alike b c d r → refusal b d r ≡ None → granted b d r ≡ granted c d r
   granted_same Begin a ok = ap₂ (λ (k : Desk) (n : Counts). Opened (age_for k n.0) n.1) a.desk (a.counts_same refl)
   granted_same (Read i) a ok =
       let at = named_alike (Read i) a i (checks_passed b d (Read i) ok).1.0 (eq-eqb i i refl) in
@@ -139,8 +142,8 @@ module _ (b c : Board) (d : ℕ) where
   granted_same End a ok = ap₂ (λ (k : Desk) (n : Counts). ended n.2 n.1 k) a.desk (a.counts_same refl)
   granted_same Abandon a ok = refl
 
-  pub answer_same : (r : Request) → Alike b c d r → answer b (Asked d r) ≡ answer c (Asked d r)
+  pub answer_same : (r : Request) → Alike b c d r → answer b (Ok (d, r)) ≡ answer c (Ok (d, r))
   unfolding answered answer
   answer_same r a =
-      cond_same (eqb (refusal b d r) 0) (granted_same r a) (λ refused. refl)
-      ∙ ap (λ (n : ℕ). cond (eqb n 0) (granted c d r) (Refused n)) (refusal_same r a)
+      unless_same (refusal b d r) Refused (granted_same r a)
+      ∙ ap (λ (o : Option Refusal). unless o Refused (granted c d r)) (refusal_same r a)

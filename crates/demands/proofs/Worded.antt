@@ -7,9 +7,8 @@ use borrow.Author.Tests.{eqb-true}
 use lib.Dec.{eqb}
 use Rattle.items.proofs.Tests.{by_test, clash, and_left, and_right, and_weaker, or_weaker}
 use Rattle.words.specs.Bytes.{byte, word_at}
-use Rattle.wire.specs.Requests.{request_of}
+use Rattle.wire.specs.Requests.{Decoded, request_of}
 use Rattle.wire.specs.declared.Request.TheVariants.{Begin, Read, Write, End, Abandon}
-use Rattle.wire.specs.declared.Decoded.{Decoded}
 use Rattle.wire.proofs.Forms.{Shape, bad, good, shape}
 use Rattle.board.specs.Rules.{desk_at}
 use Rattle.demands.specs.Demands.{is_from, bound, bounds, names, touched, concerns, Apart, names_byte, bounds_byte, ApartByBytes, AsWorded}

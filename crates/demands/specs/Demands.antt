@@ -1,14 +1,12 @@
 -- What is demanded of every run, from any right opening table and with any requests, malformed ones too.
-use Rattle.std.specs.Prelude.{ℕ, ◌<◌, ◌≡◌, ◌≢◌, Bool, true, false, ◌&&◌, ◌||◌, List, eqb}
+use Rattle.std.specs.Prelude.{ℕ, ◌<◌, ◌≡◌, ◌≢◌, Bool, true, false, ◌&&◌, ◌||◌, List, eqb, Ok, Err}
 use Rattle.items.specs.Items.{has}
 use Rattle.runs.specs.Runs.{after, Exchanged}
 use Rattle.words.specs.Bytes.{byte}
-use Rattle.wire.specs.Requests.{decode}
+use Rattle.wire.specs.Requests.{Decoded, decode}
 use Rattle.table.specs.Table.{wrong}
 use Rattle.wire.specs.declared.Request.{Request}
 use Rattle.wire.specs.declared.Request.TheVariants.{Begin, Read, Write, End, Abandon}
-use Rattle.wire.specs.declared.Decoded.{Decoded}
-use Rattle.wire.specs.declared.Decoded.TheVariants.{Asked, Malformed}
 use Rattle.wire.specs.declared.Answer.{Answer}
 use Rattle.wire.specs.declared.Answer.TheVariants.{Refused, Opened, Value, Stored, Wait, Committed, Abandoned, Aborted}
 use Rattle.board.specs.Rules.{desk_at, next, reply}
@@ -44,8 +42,8 @@ Replays =
 
 -- it is a request of desk d
 abbrev pub is_from : Decoded → ℕ → Bool
-is_from (Asked e r) d = eqb e d
-is_from (Malformed n) d = false
+is_from (Ok (e, r)) d = eqb e d
+is_from (Err n) d = false
 
 -- it is a begin or an end
 abbrev pub bound : Request → Bool
@@ -56,8 +54,8 @@ bound End = true
 bound Abandon = false
 
 abbrev pub bounds : Decoded → Bool
-bounds (Asked d r) = bound r
-bounds (Malformed n) = false
+bounds (Ok (d, r)) = bound r
+bounds (Err n) = false
 
 -- it is a read or a write, of item i
 abbrev pub names : Request → ℕ → Bool
@@ -73,8 +71,8 @@ touched k i = has k.read i || has k.shared i || has k.written i
 
 -- its desk has touched item i, or it names item i
 abbrev pub concerns : Board → Decoded → ℕ → Bool
-concerns b (Asked d r) i = touched (desk_at b d) i || names r i
-concerns b (Malformed n) i = false
+concerns b (Ok (d, r)) i = touched (desk_at b d) i || names r i
+concerns b (Err n) i = false
 
 -- on board b: of different desks, at most one a begin or an end, and no item that concerns both
 pub record Apart (b : Board) (p q : Decoded) : Type 0 where

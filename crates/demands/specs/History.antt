@@ -3,8 +3,7 @@
 use Rattle.std.specs.Prelude.{ℕ, List, [], ◌∷◌, get_or, set, replicate}
 use Rattle.runs.specs.Runs.{after, answers}
 use Rattle.runs.specs.Replay.{Op, got, put, Transaction, Replayed}
-use Rattle.wire.specs.Requests.{decode, desk_of, value_of}
-use Rattle.wire.specs.declared.Decoded.{Decoded}
+use Rattle.wire.specs.Requests.{Decoded, decode, desk_of, value_of}
 use Rattle.wire.specs.declared.Answer.{Answer}
 use Rattle.wire.specs.declared.Answer.TheVariants.{Refused, Opened, Value, Stored, Wait, Committed, Abandoned, Aborted}
 

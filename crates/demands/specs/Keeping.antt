@@ -1,12 +1,11 @@
 -- What an age is worth to a desk: aborted, it begins again as old as it was; nobody becomes older than it meanwhile; and the oldest of the
 -- open desks is never made to yield.
-use Rattle.std.specs.Prelude.{ℕ, ◌<◌, ◌≤◌, ◌≡◌, ◌≢◌, true, false, List, [], ◌∷◌}
+use Rattle.std.specs.Prelude.{ℕ, ◌<◌, ◌≤◌, ◌≡◌, ◌≢◌, true, false, List, [], ◌∷◌, Ok}
 use Rattle.runs.specs.Runs.{after}
 use Rattle.wire.specs.Requests.{decode}
 use Rattle.table.specs.Table.{wrong}
 use Rattle.wire.specs.declared.Request.{Request}
 use Rattle.wire.specs.declared.Request.TheVariants.{Begin}
-use Rattle.wire.specs.declared.Decoded.TheVariants.{Asked}
 use Rattle.wire.specs.declared.Reason.{Reason}
 use Rattle.wire.specs.declared.Reason.TheVariants.{Yield}
 use Rattle.wire.specs.declared.Answer.{Answer}
@@ -34,7 +33,7 @@ RunKeepsItsAge board next reply s =
     (before : List (List ℕ)) (q : List ℕ) (later : List (List ℕ)) (again : List ℕ) (d : ℕ) (r : Request) (w : Reason)
     → let at = after next s before in
     let then = after next (next at q) later in
-    decode q ≡ Asked d r → reply at q ≡ Aborted w → NoneFrom d later → decode again ≡ Asked d Begin
+    decode q ≡ Ok (d, r) → reply at q ≡ Aborted w → NoneFrom d later → decode again ≡ Ok (d, Begin)
     → reply then again ≡ Opened (desk_at (board at) d).age (board then).number
 
 abbrev pub KeepsItsAge : Type 0
@@ -65,7 +64,7 @@ abbrev pub RunOldestNeverYields : {S : Type 0} → (S → Board) → (S → List
 RunOldestNeverYields board next reply s =
     (before : List (List ℕ)) (q : List ℕ) (d : ℕ) (r : Request)
     → let at = after next s before in
-    decode q ≡ Asked d r → NoneOlder (board at) d → (i e : ℕ) → reply at q ≢ Aborted (Yield i e)
+    decode q ≡ Ok (d, r) → NoneOlder (board at) d → (i e : ℕ) → reply at q ≢ Aborted (Yield i e)
 
 abbrev pub OldestNeverYields : Type 0
 OldestNeverYields = (table : List ℕ) → wrong table ≡ false → RunOldestNeverYields (λ b. b) next reply (opening table)

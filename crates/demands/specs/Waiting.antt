@@ -1,11 +1,10 @@
 -- Whom a desk waits for, or yields to: the first number of a wait and of a yield is the desk of lowest age among the conflicting holders.
-use Rattle.std.specs.Prelude.{ℕ, ◌<◌, ◌≡◌, ◌≢◌, Bool, true, false, List}
+use Rattle.std.specs.Prelude.{ℕ, ◌<◌, ◌≡◌, ◌≢◌, Bool, true, false, List, Ok}
 use Rattle.runs.specs.Runs.{after}
 use Rattle.wire.specs.Requests.{decode}
 use Rattle.table.specs.Table.{wrong}
 use Rattle.wire.specs.declared.Request.{Request}
 use Rattle.wire.specs.declared.Request.TheVariants.{Begin, Read, Write, End, Abandon}
-use Rattle.wire.specs.declared.Decoded.TheVariants.{Asked}
 use Rattle.wire.specs.declared.Reason.{Reason}
 use Rattle.wire.specs.declared.Reason.TheVariants.{Overwritten, TooOld, Yield}
 use Rattle.wire.specs.declared.Answer.{Answer}
@@ -57,7 +56,7 @@ abbrev pub RunNamesTheOldest : {S : Type 0} → (S → Board) → (S → List �
 RunNamesTheOldest board next reply s =
     (before : List (List ℕ)) (q : List ℕ) (d : ℕ) (r : Request)
     → let at = after next s before in
-    decode q ≡ Asked d r → NamesHolder (board at) d r (reply at q)
+    decode q ≡ Ok (d, r) → NamesHolder (board at) d r (reply at q)
 
 abbrev pub NamesTheOldest : Type 0
 NamesTheOldest = (table : List ℕ) → wrong table ≡ false → RunNamesTheOldest (λ b. b) next reply (opening table)

@@ -1,32 +1,25 @@
 // Validation at the end: what was read against the write sets of later numbers.
 ghost use Rattle.std.specs.Prelude.{◌≡◌, ◌≤◌, ◌<◌};
-ghost use Rattle.board.specs.Rules.{shares, first_stale};
+ghost use Rattle.board.specs.Rules.{overwritten};
 
 use counters::Number;
 use items::Items;
+use wire::Reason;
 
-// The write set of number n shares an item with the open-read set.
-fn shares(sets: [Items; 16], read: Items, n: Number) -> bool
-    ensures { result ≡ shares sets read n.0 }
-{
-    let set = sets[n.place()];
-    !set.common(read).is_empty()
-}
-
-// The lowest number above the start whose write set shares an item with the open-read set; the one after the last where there is none.
-pub fn first_stale(sets: [Items; 16], read: Items, start: Number, last: Number) -> Number
+// Why an end is overwritten, if it is: of the numbers above the start up to the last the lowest whose write set shares an item with the
+// open-read set, and the lowest such item.
+pub fn overwritten(sets: &[Items; 16], read: Items, start: Number, last: Number) -> Option<Reason>
     requires start_le_last { start.0 ≤ last.0 }
     requires last_bound { last.0 < 2000 }
-    ensures { result.0 ≡ first_stale sets read start.0 last.0 }
+    ensures { result ≡ overwritten sets.now read start.0 last.0 }
 {
     let span = last.since(start);
-    let mut k = 0;
-    while k < span {
-        let n = start.later(k);
-        if shares(sets, read, n) {
-            return n;
+    for k in 0..span {
+        let number = start.later(k);
+        let both = sets[number.place()].common(read);
+        if let Some(item) = both.lowest() {
+            return Some(Reason::Overwritten(item.index() as u8, number));
         }
-        k += 1;
     }
-    start.later(span)
+    None
 }

@@ -13,15 +13,13 @@ use board::{Board, Stepped};
 use decoding::decode;
 
 // One request of 8 bytes, whatever they are. Of the board it supposes only what an opening and such calls can have left.
-pub fn step(board: Board, request: [u8; 8]) -> Stepped
+#[tactic(auto, using(board::proofs::Reached::reached_sound, board::proofs::Reached::sound_counted, board::proofs::Bounds::answer_item), unfolding(board::specs::Rules::step))]
+pub fn step(board: Board, request: [u8; 8]) -> Stepped<Board>
     requires { Reached board }
     ensures { result ≡ step board request }
 {
     let asked = decode(request);
-    let answer = answer(board, asked);
-    let after = follow(board, asked, answer);
-    Stepped {
-        board: after,
-        answer,
-    }
+    let answer = answer(&board, &asked);
+    let board = follow(board, &asked, answer);
+    Stepped { board, answer }
 }
