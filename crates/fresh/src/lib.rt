@@ -1,22 +1,14 @@
 // A fresh board with an empty journal.
 #![tactic(auto)]
 
-ghost use Rattle.std.specs.Prelude.{◌≡◌, false};
-ghost use Rattle.table.specs.Table.{wrong};
+ghost use Rattle.std.specs.Prelude.{◌≡◌};
 ghost use Rattle.journal.specs.Journal.{fresh, cleared};
-ghost use Rattle.fresh.specs.Fresh.{opened_by, journal_opened};
+ghost use Rattle.fresh.specs.Fresh.{opened_of, journal_opened};
 
 use journal::Journaled;
 use opening::opening;
 use records::room;
-use table::wrong;
-
-// The board, and the number that is returned.
-#[derive(Clone, Copy)]
-pub struct Opened {
-    pub board: Journaled,
-    pub code: i64,
-}
+use table::WrongTable;
 
 // Zeroes the journal, as far as it is used.
 #[tactic(auto, using(records::proofs::Sizes::room_within))]
@@ -24,16 +16,11 @@ fn clear(journal: &mut [u8])
     ensures { journal.new ≡ cleared journal.old }
 {
     let end = room(journal.len());
-    let mut i = 0;
-    while i < end {
-        journal[i] = 0;
-        i += 1;
-    }
+    journal[..end].fill(0);
 }
 
-// The board of a right table with an empty journal.
-pub fn fresh(table: &[u8], journal: &mut [u8]) -> Journaled
-    requires { wrong table.now ≡ false }
+// The board of a table with an empty journal.
+pub fn fresh(table: &[u8; 1024], journal: &mut [u8]) -> Journaled
     ensures value { result ≡ fresh table.now }
     ensures journal_after { journal.new ≡ cleared journal.old }
 {
@@ -44,15 +31,11 @@ pub fn fresh(table: &[u8], journal: &mut [u8]) -> Journaled
     }
 }
 
-pub fn open(s: Journaled, table: &[u8], journal: &mut [u8]) -> Opened
-    ensures { (result ≡ opened_by s table.now) × (journal.new ≡ journal_opened table.now journal.old) }
+// The same, of a table that is right; of a wrong one the journal stays as it is.
+#[tactic(auto, using(table::proofs::Rows::is_wrong, table::proofs::Rows::checked_is, table::proofs::Rows::checked_not), unfolding(crate::specs::Fresh::opened_of, crate::specs::Fresh::journal_opened))]
+pub fn open(table: &[u8], journal: &mut [u8]) -> Result<Journaled, WrongTable>
+    ensures { (result ≡ opened_of table.now) × (journal.new ≡ journal_opened table.now journal.old) }
 {
-    if wrong(table) {
-        return Opened {
-            board: s,
-            code: -10,
-        };
-    }
-    let board = fresh(table, journal);
-    Opened { board, code: 0 }
+    let rows = table::check(table)?;
+    Ok(fresh(rows, journal))
 }

@@ -9,15 +9,15 @@ use Rattle.runs.specs.Runs.{after}
 use Rattle.runs.proofs.Grown.{after_more}
 use Rattle.words.specs.Bytes.{Bytes}
 use Rattle.table.specs.Table.{wrong}
-use Rattle.wire.specs.Requests.{decode}
+use Rattle.wire.specs.Requests.{Decoded, decode}
 use Rattle.wire.specs.Answers.{item_of}
-use Rattle.wire.specs.declared.Decoded.{Decoded}
 use Rattle.wire.specs.declared.Answer.{Answer}
 use Rattle.wire.specs.declared.Answer.TheVariants.{Refused, Opened, Value, Stored, Wait, Committed, Abandoned, Aborted}
 use Rattle.desks.specs.declared.Desk.{Desk}
 use Rattle.board.specs.Rules as Rules
 use Rattle.board.specs.Rules.{follow}
-use Rattle.board.specs.Reached as Board
+use Rattle.board.specs.Reached as Boards
+use Rattle.board.specs.declared.Board.{Board}
 use Rattle.board.proofs.Bounds.{answer_item}
 use Rattle.board.proofs.Reached.{reached_opening, reached_step}
 use Rattle.records.specs.Records.{size_of, room}
@@ -41,13 +41,12 @@ used_most k used most bound Abandoned e h r = omega arith
 used_most k used most bound (Aborted w) e h r = omega arith
 
 -- the item of an answer is one of the 64
-pub answer_in_item : (s : Journaled) (n : ℕ) (q : Decoded) → item_of (answer_in s n q) < 64
-unfolding answer_in
-answer_in_item s n q =
-    limited_ways (s.used + size_of (asking s q).written) (room n) (λ (a : Answer). item_of a < 64) (Rules.answer s.board q) (answer_item s.board q) (λ _ _ _. omega arith)
+pub given_item : (need most : ℕ) (b : Board) (q : Decoded) {first given : Answer} → first ≡ Rules.answer b q → given ≡ limited need most first → item_of given < 64
+given_item need most b q f g =
+    rw (g, f) (limited_ways need most (λ (a : Answer). item_of a < 64) (Rules.answer b q) (answer_item b q) (λ _ _ _. omega arith))
 
 abbrev Fine : Journaled → Type 0
-Fine s = Board.Reached s.board × (s.used ≤ 65536)
+Fine s = Boards.Reached s.board × (s.used ≤ 65536)
 
 -- the answer stands, or it is the refusal and the board is as it was
 call_fine : (s : Journaled) (n : ℕ) (q : List ℕ) → Bytes 8 q → Fine s → Fine (step s n q).board
@@ -55,7 +54,7 @@ unfolding step answer_in Rules.step follow
 call_fine s n q eight fine =
     let d = decode q in
     let need = s.used + size_of (asking s d).written in (
-      limited_ways need (room n) (λ (a : Answer). Board.Reached (follow s.board d a)) (Rules.answer s.board d) (reached_step fine.0 q eight) (λ _ _ _. fine.0),
+      limited_ways need (room n) (λ (a : Answer). Boards.Reached (follow s.board d a)) (Rules.answer s.board d) (reached_step fine.0 q eight) (λ _ _ _. fine.0),
       used_most (asking s d) s.used (room n) 65536 (answer_in s n d) (limited_twice need (room n) (Rules.answer s.board d)) fine.1 (room_most n),
     )
 

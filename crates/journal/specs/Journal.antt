@@ -1,8 +1,8 @@
 -- The board with a journal of its commits. The board's answer comes first; then the room for the records of a commit is tested; then the
 -- board follows, and the records are put into the journal.
+use Rattle.wire.specs.declared.Refusal.TheVariants.{NoJournalLeft}
 use Rattle.std.specs.Prelude.{ℕ, ◌+◌, Bool, true, false, cond, ◌&&◌, List, [], ◌++◌, ltb, length, drop, replicate}
-use Rattle.wire.specs.Requests.{decode, desk_of}
-use Rattle.wire.specs.declared.Decoded.{Decoded}
+use Rattle.wire.specs.Requests.{Decoded, decode, desk_of}
 use Rattle.wire.specs.declared.Answer.{Answer}
 use Rattle.wire.specs.declared.Answer.TheVariants.{Refused, Opened, Value, Stored, Wait, Committed, Abandoned, Aborted}
 use Rattle.desks.specs.declared.Desk.{Desk}
@@ -10,7 +10,7 @@ use Rattle.board.specs.Rules.{desk_at, answer, follow}
 use Rattle.board.specs.Opening.{opening}
 use Rattle.records.specs.Records.{records_of, size_of, room, over}
 use Rattle.journal.specs.declared.Journaled.{Journaled}
-use Rattle.journal.specs.declared.Stepped.{Stepped}
+use Rattle.board.specs.declared.Stepped.{Stepped}
 
 -- ---- the answer
 
@@ -27,7 +27,7 @@ commits (Aborted w) = false
 
 -- an end that would commit but lacks room for all its records is refused; with them, `need` bytes would be used
 abbrev pub limited : ℕ → ℕ → Answer → Answer
-limited need room a = cond (commits a && ltb room need) (Refused 15) a
+limited need room a = cond (commits a && ltb room need) (Refused NoJournalLeft) a
 
 -- the desk that asks
 abbrev pub asking : Journaled → Decoded → Desk
@@ -50,13 +50,13 @@ added k (Committed n) = records_of k n
 added k Abandoned = []
 added k (Aborted w) = []
 
-abbrev pub stepped : Journaled → ℕ → Decoded → Stepped
+abbrev pub stepped : Journaled → ℕ → Decoded → Stepped Journaled
 stepped s n q =
     let a = answer_in s n q in
     record { board = record { board = follow s.board q a; used = s.used + length (added (asking s q) a) }; answer = a }
 
 -- of 8 bytes, over a journal of length n
-unfoldable pub step : Journaled → ℕ → List ℕ → Stepped
+unfoldable pub step : Journaled → ℕ → List ℕ → Stepped Journaled
 step s n bytes = stepped s n (decode bytes)
 
 -- what journal j holds then

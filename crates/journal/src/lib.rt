@@ -8,13 +8,13 @@ ghost use Rattle.journal.specs.Journal.{limited, added, step, journal_after};
 ghost use Rattle.journal.specs.Reached.{Reached};
 
 use answering::answer;
-use board::Board;
+use board::{Board, Stepped};
 use decoding::{decode, desk_of};
 use desks::Desk;
 use items::Items;
 use records::{append, room, size};
 use stepping::following::follow;
-use wire::Answer;
+use wire::{Answer, Refusal};
 
 // A board, and how many bytes of its journal hold records.
 #[repr(C)]
@@ -24,24 +24,15 @@ pub struct Journaled {
     pub used: usize,
 }
 
-// The board after a request, and the answer to it.
-#[derive(Clone, Copy)]
-pub struct Stepped {
-    pub board: Journaled,
-    pub answer: Answer,
-}
-
 // An end that would commit but lacks room for all its records is refused.
+#[tactic(auto, using(records::proofs::Sizes::count_below_lem))]
 fn limited(answer: Answer, used: usize, written: Items, room: usize) -> Answer
     requires { used ≤ 65536 }
     ensures { result ≡ limited (used + size_of written) room answer }
 {
     match answer {
-        Answer::Committed(number) => {
-            if room < used + size(written) {
-                return Answer::Refused(15);
-            }
-            Answer::Committed(number)
+        Answer::Committed(_) if room < used + size(written) => {
+            Answer::Refused(Refusal::NoJournalLeft)
         }
         _ => answer,
     }
@@ -60,25 +51,20 @@ fn recorded(journal: &mut [u8], used: usize, k: Desk, answer: Answer) -> usize
 }
 
 // One request of 8 bytes, whatever they are, over any journal. Of the board it supposes only what an opening and such calls can have left.
-pub fn step(s: Journaled, request: [u8; 8], journal: &mut [u8]) -> Stepped
+#[tactic(auto, unfolding(crate::specs::Journal::step, crate::specs::Journal::journal_after, crate::specs::Journal::answer_in))]
+pub fn step(s: Journaled, request: [u8; 8], journal: &mut [u8]) -> Stepped<Journaled>
     requires { Reached s }
     ensures value { result ≡ step s (length journal.old) request }
     ensures journal_after { journal.new ≡ journal_after s journal.old request }
 {
     let asked = decode(request);
-    let board = s.board;
-    let used = s.used;
-    let desks = board.desks;
-    let k = desks[desk_of(asked)];
-    let first = answer(board, asked);
-    let answer = limited(first, used, k.written, room(journal.len()));
-    let after = follow(board, asked, answer);
-    let next = recorded(journal, used, k, answer);
+    let k = s.board.desks[desk_of(&asked).index()];
+    let first = answer(&s.board, &asked);
+    let answer = limited(first, s.used, k.written, room(journal.len()));
+    let board = follow(s.board, &asked, answer);
+    let used = recorded(journal, s.used, k, answer);
     Stepped {
-        board: Journaled {
-            board: after,
-            used: next,
-        },
+        board: Journaled { board, used },
         answer,
     }
 }

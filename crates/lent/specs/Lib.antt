@@ -1,2 +1,2 @@
-pub mod Served
 pub mod Refusals
+pub mod Served

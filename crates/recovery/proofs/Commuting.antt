@@ -8,12 +8,11 @@ use borrow.Author.Tests.{eq-eqb}
 use lib.Dec.{eqb}
 use lib.ListN.{get_or}
 use lib.Seq.{get_or-set_other}
+use Rattle.std.specs.Prelude.{Ok, Err}
 use Rattle.items.proofs.Tests.{by_test, clash, and_in, and_not_right}
 use Rattle.runs.proofs.Neighbours.{Commute, turned, exchanged}
-use Rattle.wire.specs.Requests.{decode, desk_of}
+use Rattle.wire.specs.Requests.{Decoded, decode, desk_of}
 use Rattle.wire.specs.declared.Request.{Request}
-use Rattle.wire.specs.declared.Decoded.{Decoded}
-use Rattle.wire.specs.declared.Decoded.TheVariants.{Asked, Malformed}
 use Rattle.wire.specs.declared.Answer.{Answer}
 use Rattle.desks.specs.Desks.{beyond}
 use Rattle.desks.specs.declared.Desk.{Desk}
@@ -42,8 +41,8 @@ due_quiet r (silent e h) t f = e
 
 answer_quiet : (b : Board) (x : Decoded) → bounds x ≡ false → commits (answer b x) ≡ false
 unfolding answer
-answer_quiet b (Asked d r) f = due_quiet r (way (answer b (Asked d r))) (due b d r) f
-answer_quiet b (Malformed n) f = refl
+answer_quiet b (Ok (d, r)) f = due_quiet r (way (answer b (Ok (d, r)))) (due b d r) f
+answer_quiet b (Err n) f = refl
 
 within_quiet : (q : List ℕ) → bounds (decode q) ≡ false → Quiet q
 unfolding Rules.step
@@ -67,12 +66,12 @@ Others x y = (d : ℕ) → (is_from x d && is_from y d) ≡ false
 
 desk_kept : (b : Board) (x y : Decoded) → Others x y → bounds x ≡ true → desk_at (stepped b y).board (desk_of x) ≡ desk_at b (desk_of x)
 unfolding answer follow
-desk_kept b (Malformed n) y others t = clash t refl
-desk_kept b (Asked d r) (Malformed n) others t = refl
-desk_kept b (Asked d r) (Asked e s) others t =
-    let a = answer b (Asked e s) in
-    ap (λ (ds : List Desk). get_or ds d beyond) (desks_after b (Asked e s) a (kind a))
-    ∙ get_or-set_other b.desks e d (desk_now b (Asked e s) a) beyond
+desk_kept b (Err n) y others t = clash t refl
+desk_kept b (Ok (d, r)) (Err n) others t = refl
+desk_kept b (Ok (d, r)) (Ok (e, s)) others t =
+    let a = answer b (Ok (e, s)) in
+    ap (λ (ds : List Desk). get_or ds d beyond) (desks_after b (Ok (e, s)) a (kind a))
+    ∙ get_or-set_other b.desks e d (desk_now b (Ok (e, s)) a) beyond
     (λ same. clash (and_in (eqb d d) (eqb e d) (eq-eqb d d refl) (eq-eqb e d (sym same))) (others d))
 
 -- ---- neither request is a begin or an end

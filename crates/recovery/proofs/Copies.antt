@@ -7,20 +7,19 @@ use borrow.Author.Tests.{ltb-true, ltb-false}
 use lib.Dec.{eqb, ltb}
 use lib.ListN.{get_or, set, length}
 use lib.Seq.{get_or-set_same, get_or-set_other, set_out}
+use Rattle.std.specs.Prelude.{Ok, Err}
 use Rattle.items.specs.Items.{has}
 use Rattle.items.proofs.Laws.{has-none, with_other}
 use Rattle.items.proofs.Tests.{by_cond, by_test, by_equal, by_place, clash}
 use Rattle.counters.specs.Counters.{no_age, no_number}
 use Rattle.counters.specs.declared.Age.{Age}
 use Rattle.counters.specs.declared.Number.{Number}
-use Rattle.wire.specs.Requests.{desk_of, value_in, value_of}
+use Rattle.wire.specs.Requests.{Decoded, desk_of, value_in, value_of}
 use Rattle.wire.specs.declared.Request.{Request}
 use Rattle.wire.specs.declared.Request.TheVariants.{Begin, Read, Write, End, Abandon}
-use Rattle.wire.specs.declared.Decoded.{Decoded}
-use Rattle.wire.specs.declared.Decoded.TheVariants.{Asked, Malformed}
 use Rattle.wire.specs.declared.Answer.{Answer}
 use Rattle.wire.specs.declared.Answer.TheVariants.{Refused, Opened, Value, Stored, Wait, Committed, Abandoned, Aborted}
-use Rattle.wire.proofs.Checks.{Passed}
+use Rattle.wire.proofs.Checks.{Passed, unless_ways}
 use Rattle.desks.specs.Desks.{blank, idle, opened, copy_of, desk_in, beyond}
 use Rattle.desks.specs.declared.Desk.{Desk}
 use Rattle.desks.proofs.Locking.{locked_ways}
@@ -59,8 +58,8 @@ granted_stores b d Abandon p = tt
 
 pub answer_stores : (b : Board) (q : Decoded) → Stores b (value_of q) (answer b q)
 unfolding answer answered
-answer_stores b (Malformed n) = tt
-answer_stores b (Asked d r) = by_cond (Stores b (value_in r)) (eqb (refusal b d r) 0) (λ e. granted_stores b d r (checks_passed b d r e)) (λ e. tt)
+answer_stores b (Err n) = tt
+answer_stores b (Ok (d, r)) = unless_ways (Stores b (value_in r)) (refusal b d r) (λ n e. tt) (λ e. granted_stores b d r (checks_passed b d r e))
 
 -- ---- what is kept
 

@@ -20,10 +20,9 @@ use Rattle.pieces.specs.Pieces.{eights_of}
 use Rattle.records.specs.Records.{room}
 use Rattle.records.proofs.Sizes.{room_most, room_within}
 use Rattle.journal.specs.Journal.{Ledger, opened, next}
-use Rattle.restart.specs.Restart.{unread, read, restored, with_values, told, restarted}
+use Rattle.restart.specs.Restart.{Reading, unread, read, restored, with_values, told, restarted}
 use Rattle.restart.specs.Restarts.{fresh_with}
 use Rattle.restart.proofs.Restarts.{restarted_opens}
-use Rattle.restart.specs.declared.reading.Reading.{Reading}
 use Rattle.recovery.specs.Cuts.{within, board_within, Cuts, Resumes, ReadsNoFurther}
 use Rattle.recovery.proofs.Growth.{kept_next}
 use Rattle.recovery.proofs.Pieces.{same_front}

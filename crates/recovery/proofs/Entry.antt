@@ -5,17 +5,16 @@ use mathlib.Core.Bool.{true, false}
 use mathlib.Core.List.{List, [], ◌∷◌, ◌++◌}
 use native.Mathlib.Omega.{arith}
 use borrow.Author.Tests.{eq-eqb, le-leb}
-use Rattle.items.specs.Items.{has}
+use Rattle.items.specs.Items.{has, count_below}
 use Rattle.items.specs.declared.Items.{Items}
 use Rattle.items.proofs.Tests.{by_test}
 use Rattle.runs.specs.Runs.{after}
 use Rattle.words.proofs.Fours.{four_tell}
 use Rattle.table.specs.Table.{floor_at, ceiling_at}
 use Rattle.board.specs.Rules.{filled, installed}
-use Rattle.records.specs.Records.{record_of, count_below, item_record, item_records, entry}
+use Rattle.records.specs.Records.{record_of, item_record, item_records, entry}
 use Rattle.records.proofs.Sizes.{count_below_lem}
-use Rattle.restart.specs.Restart.{value_in, fits_item, fits_closing, read}
-use Rattle.restart.specs.declared.reading.Reading.{Reading}
+use Rattle.restart.specs.Restart.{Reading, value_in, fits_item, fits_closing, read}
 use Rattle.restart.proofs.Fitting.{by_ceiling, by_count, no_item}
 use Rattle.restart.proofs.Steps.{takes, closes}
 

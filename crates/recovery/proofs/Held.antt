@@ -6,15 +6,14 @@ use mathlib.Core.List.{List, [], ◌∷◌, ◌++◌, append_assoc}
 use native.Mathlib.Omega.{arith}
 use lib.ListN.{length, drop, get_or, replicate, length-append, length-replicate, length-drop}
 use lib.Seq.{get_or-append-add}
-use Rattle.items.specs.Items.{has}
+use Rattle.items.specs.Items.{has, count_below}
 use Rattle.items.specs.declared.Items.{Items}
 use Rattle.items.proofs.Tests.{by_test}
 use Rattle.counters.specs.declared.Number.{Number}
 use Rattle.runs.specs.Runs.{after}
 use Rattle.words.specs.Bytes.{Bytes, byte}
-use Rattle.wire.specs.Requests.{decode, desk_of, value_of}
+use Rattle.wire.specs.Requests.{Decoded, decode, desk_of, value_of}
 use Rattle.table.specs.Table.{floor_at, ceiling_at}
-use Rattle.wire.specs.declared.Decoded.{Decoded}
 use Rattle.wire.specs.declared.Answer.{Answer}
 use Rattle.wire.specs.declared.Answer.TheVariants.{Refused, Opened, Value, Stored, Wait, Committed, Abandoned, Aborted}
 use Rattle.desks.specs.Desks.{copy_of}
@@ -30,13 +29,12 @@ use Rattle.board.proofs.Bounds.{desk_low}
 use Rattle.board.proofs.Granted.{Granted, answer-granted}
 use Rattle.pieces.specs.Pieces.{eights_of, in_one}
 use Rattle.pieces.proofs.Eights.{EightLong, in_one-length}
-use Rattle.records.specs.Records.{record_of, count_below, item_record, item_records, entry, size_of, room, over}
+use Rattle.records.specs.Records.{record_of, item_record, item_records, entry, size_of, room, over}
 use Rattle.records.proofs.Appended.{over_none, over-length, over_inside, over_after}
 use Rattle.records.proofs.Sizes.{in_one-append, room_within}
 use Rattle.journal.specs.Journal.{limited, asking, answer_in, added, step, journal_after, cleared, Ledger, opened, next}
 use Rattle.journal.proofs.Room.{limited_ways, limited_room, limited_twice, added_size}
-use Rattle.restart.specs.Restart.{unread, read}
-use Rattle.restart.specs.declared.reading.Reading.{Reading}
+use Rattle.restart.specs.Restart.{Reading, unread, read}
 use Rattle.recovery.proofs.Step.{followed}
 use Rattle.recovery.proofs.Pieces.{put_after, long_more}
 use Rattle.recovery.proofs.Entry.{clean, after_two, entry_read}

@@ -1,16 +1,20 @@
 -- The board without a journal never gives refusal 15: what is malformed is refused 1, 2 or 3, and the board's own checks give 4 to 9.
 use Prim.Native.Nat.{ℕ}
-use mathlib.Core.Path.{◌≡◌, refl, ap}
+use mathlib.Core.Path.{◌≡◌, refl, ap, sym}
+use Rattle.std.specs.Prelude.{Some}
+use Rattle.std.proofs.lemmas.Option.{none-some, same_Some}
 use mathlib.Core.Bool.{Bool, true, false, not, ◌&&◌}
 use mathlib.Core.List.{List, [], ◌∷◌}
 use lib.Dec.{T, eqb}
-use Rattle.items.proofs.Tests.{by_test, by_cond, clash}
+use Rattle.items.proofs.Tests.{by_test, clash}
 use Rattle.words.specs.Bytes.{byte}
 use Rattle.wire.specs.Checks.{Check, ◌fails◌, first_failing}
-use Rattle.wire.specs.Requests.{form_checks, malformed, decode}
+use Rattle.wire.specs.Answers.{number_of}
+use Rattle.wire.proofs.Checks.{unless_ways}
+use Rattle.wire.specs.declared.Refusal.{Refusal}
+use Rattle.wire.specs.Requests.{Decoded, form_checks, malformed, decode}
 use Rattle.wire.specs.declared.Request.{Request}
 use Rattle.wire.specs.declared.Request.TheVariants.{Begin, Read, Write, End, Abandon}
-use Rattle.wire.specs.declared.Decoded.{Decoded}
 use Rattle.wire.specs.declared.Answer.{Answer}
 use Rattle.wire.specs.declared.Answer.TheVariants.{Refused, Opened, Value, Stored, Wait, Committed, Abandoned, Aborted}
 use Rattle.wire.proofs.Forms.{wanted}
@@ -21,7 +25,7 @@ use Rattle.board.proofs.Validated.{ended_ways}
 use Rattle.recovery.specs.Journaled.{NeverFifteen}
 
 abbrev fifteen : Answer → Bool
-fifteen (Refused n) = eqb n 15
+fifteen (Refused r) = eqb (number_of r) 15
 fifteen (Opened a s) = false
 fifteen (Value i v) = false
 fifteen (Stored i) = false
@@ -35,16 +39,18 @@ Other a = fifteen a ≡ false
 
 -- ---- checks
 
--- no check is numbered 15: a closed list of numbers computes this
-abbrev without15 : List Check → Bool
+-- no check gives 15: a closed list of refusals computes this
+abbrev without15 : List (Check Refusal) → Bool
 without15 [] = true
-without15 ((t fails n) ∷ cs) = not (eqb n 15) && without15 cs
+without15 ((t fails r) ∷ cs) = not (eqb (number_of r) 15) && without15 cs
 
-first_other : (cs : List Check) → T (without15 cs) → eqb (first_failing cs) 15 ≡ false
-first_other [] h = refl
-first_other ((t fails n) ∷ cs) h =
-    by_test (eqb n 15) (λ z. absurd (rw z at h))
-    (λ z. by_cond (λ (m : ℕ). eqb m 15 ≡ false) t (λ failed. z) (λ passed. first_other cs (rw z at h)))
+first_other : (cs : List (Check Refusal)) → T (without15 cs) → (r : Refusal) → first_failing cs ≡ Some r → eqb (number_of r) 15 ≡ false
+first_other [] h r e = absurd (none-some r e)
+first_other ((t fails n) ∷ cs) h r e =
+    by_test (eqb (number_of n) 15) (λ z. absurd (rw z at h))
+    (λ z.
+    by_test t (λ failed. rw (sym (same_Some n r (rw failed at e))) z)
+    (λ passed. first_other cs (rw z at h) r (rw passed at e)))
 
 checks_other : (b : Board) (d : ℕ) (r : Request) → T (without15 (checks b d r))
 checks_other b d Begin = tt
@@ -68,14 +74,13 @@ module _ (b : Board) where
   answered_other : (d : ℕ) (r : Request) → Other (answered b d r)
   unfolding answered
   answered_other d r =
-      by_cond Other (eqb (refusal b d r) 0) (λ passed. granted_other d r)
-      (λ refused. first_other (checks b d r) (checks_other b d r))
+      unless_ways Other (refusal b d r) (λ n. first_other (checks b d r) (checks_other b d r) n) (λ passed. granted_other d r)
 
   answer_other : (q : List ℕ) → Other (answer b (decode q))
   unfolding answer decode
   answer_other q =
-      by_cond (λ (x : Decoded). Other (answer b x)) (eqb (malformed q) 0)
-      (λ passed. answered_other (byte q 1) (wanted q)) (λ refused. first_other (form_checks q) tt)
+      unless_ways (λ (x : Decoded). Other (answer b x)) (malformed q) (λ n. first_other (form_checks q) tt n)
+      (λ passed. answered_other (byte q 1) (wanted q))
 
 pub never_fifteen : NeverFifteen
 unfolding step

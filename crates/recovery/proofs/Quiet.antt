@@ -10,8 +10,7 @@ use Rattle.runs.proofs.Grown.{after_more}
 use Rattle.words.specs.Bytes.{byte}
 use Rattle.pieces.specs.Pieces.{eights_of}
 use Rattle.pieces.proofs.Eights.{eight_at}
-use Rattle.restart.specs.Restart.{fits_item, fits_closing, read}
-use Rattle.restart.specs.declared.reading.Reading.{Reading}
+use Rattle.restart.specs.Restart.{Reading, fits_item, fits_closing, read}
 use Rattle.restart.proofs.Fitting.{no_closing}
 use Rattle.recovery.proofs.Pieces.{first_byte}
 

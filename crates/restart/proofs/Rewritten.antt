@@ -3,7 +3,6 @@ use Prim.Native.Nat.{ℕ, zero, suc, ◌+◌, ◌*◌, ◌≤◌, ◌<◌}
 use mathlib.Core.Path.{◌≡◌, refl, ap, sym, ◌∙◌, subst}
 use mathlib.Core.List.{List}
 use native.Mathlib.Omega.{arith}
-use native.Mathlib.Numerals.{add-one}
 use borrow.Author.Tests.{ltb-true, ltb-false}
 use lib.Dec.{ltb}
 use lib.ListN.{get_or, length}
@@ -11,34 +10,30 @@ use Rattle.items.proofs.Tests.{by_test, by_equal}
 use Rattle.words.specs.Bytes.{Bytes, byte, word, word_at, four_bytes}
 use Rattle.words.proofs.Fours.{four_tell, four_small}
 use Rattle.table.specs.Table.{floor_at, ceiling_at, value_at}
+use Rattle.pieces.specs.Pieces.{put_each}
 use Rattle.records.specs.Records.{over}
 use Rattle.records.proofs.Appended.{over-length, over_before, over_inside, over_after, over_small}
-use Rattle.restart.specs.Restart.{rewritten, with_values}
-
--- one row more
-pub rewritten_suc : (t vs : List ℕ) (i : ℕ) → rewritten t vs (i + 1) ≡ over (rewritten t vs i) (16 * i + 8) (four_bytes (get_or vs i 0))
-unfolding rewritten
-rewritten_suc t vs i = rw add-one
+use Rattle.restart.specs.Restart.{with_values}
 
 module _ (t vs : List ℕ) (long : length t ≡ 1024) where
-  rewritten-length : (n : ℕ) → n ≤ 64 → length (rewritten t vs n) ≡ 1024
-  unfolding rewritten
+  rewritten-length : (n : ℕ) → n ≤ 64 → length (put_each 8 16 t vs n) ≡ 1024
+  unfolding put_each
   rewritten-length zero h = long
   rewritten-length (suc n) h =
-      let before : length (rewritten t vs n) ≡ 1024 = rewritten-length n (omega arith) in
-      over-length (rewritten t vs n) (16 * n + 8) (four_bytes (get_or vs n 0)) (omega arith) ∙ before
+      let before : length (put_each 8 16 t vs n) ≡ 1024 = rewritten-length n (omega arith) in
+      over-length (put_each 8 16 t vs n) (16 * n + 8) (four_bytes (get_or vs n 0)) (omega arith) ∙ before
 
   -- row n is in the table
-  row_in : (n : ℕ) → n < 64 → 16 * n + 8 ≤ length (rewritten t vs n)
+  row_in : (n : ℕ) → n < 64 → 16 * n + 8 ≤ length (put_each 8 16 t vs n)
   row_in n h = omega (arith, rewritten-length n (omega arith))
 
   -- a byte that is in no row's value
-  rewritten_kept : (k : ℕ) → ((i : ℕ) → 16 * i + 8 ≤ k → 16 * i + 12 ≤ k) → (n : ℕ) → n ≤ 64 → get_or (rewritten t vs n) k 0 ≡ get_or t k 0
-  unfolding rewritten
+  rewritten_kept : (k : ℕ) → ((i : ℕ) → 16 * i + 8 ≤ k → 16 * i + 12 ≤ k) → (n : ℕ) → n ≤ 64 → get_or (put_each 8 16 t vs n) k 0 ≡ get_or t k 0
+  unfolding put_each
   rewritten_kept k out zero h = refl
   rewritten_kept k out (suc n) h =
       let at = 16 * n + 8 in
-      let before = rewritten t vs n in
+      let before = put_each 8 16 t vs n in
       let four = four_bytes (get_or vs n 0) in
       by_test (ltb k at)
       (λ l. over_before before at four (row_in n (omega arith)) k (ltb-true k at l))
@@ -46,12 +41,12 @@ module _ (t vs : List ℕ) (long : length t ≡ 1024) where
       ∙ rewritten_kept k out n (omega arith)
 
   -- byte m of the value of row i
-  rewritten_value : (i m : ℕ) → m < 4 → (n : ℕ) → n ≤ 64 → i < n → get_or (rewritten t vs n) (16 * i + 8 + m) 0 ≡ get_or (four_bytes (get_or vs i 0)) m 0
-  unfolding rewritten
+  rewritten_value : (i m : ℕ) → m < 4 → (n : ℕ) → n ≤ 64 → i < n → get_or (put_each 8 16 t vs n) (16 * i + 8 + m) 0 ≡ get_or (four_bytes (get_or vs i 0)) m 0
+  unfolding put_each
   rewritten_value i m low zero h l = absurd (omega arith)
   rewritten_value i m low (suc n) h l =
       let at = 16 * n + 8 in
-      let before = rewritten t vs n in
+      let before = put_each 8 16 t vs n in
       let four = four_bytes (get_or vs n 0) in
       by_equal i n
       (λ e.
@@ -61,11 +56,11 @@ module _ (t vs : List ℕ) (long : length t ≡ 1024) where
       over_before before at four (row_in n (omega arith)) (16 * i + 8 + m) (omega arith)
       ∙ rewritten_value i m low n (omega arith) (omega arith))
 
-  rewritten_small : ((k : ℕ) → get_or t k 0 < 256) → (n : ℕ) → n ≤ 64 → (k : ℕ) → get_or (rewritten t vs n) k 0 < 256
-  unfolding rewritten
+  rewritten_small : ((k : ℕ) → get_or t k 0 < 256) → (n : ℕ) → n ≤ 64 → (k : ℕ) → get_or (put_each 8 16 t vs n) k 0 < 256
+  unfolding put_each
   rewritten_small small zero h = small
   rewritten_small small (suc n) h =
-      over_small (rewritten t vs n) (16 * n + 8) (four_bytes (get_or vs n 0)) (row_in n (omega arith)) (rewritten_small small n (omega arith)) (four_small (get_or vs n 0))
+      over_small (put_each 8 16 t vs n) (16 * n + 8) (four_bytes (get_or vs n 0)) (row_in n (omega arith)) (rewritten_small small n (omega arith)) (four_small (get_or vs n 0))
 
   -- ---- the whole table
 

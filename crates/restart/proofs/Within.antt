@@ -15,8 +15,7 @@ use Rattle.board.specs.Opening.{opening}
 use Rattle.board.proofs.Filled.{column-length, column_at}
 use Rattle.pieces.specs.Pieces.{eights_of}
 use Rattle.records.specs.Records.{room}
-use Rattle.restart.specs.Restart.{value_in, unread, read, restored}
-use Rattle.restart.specs.declared.reading.Reading.{Reading}
+use Rattle.restart.specs.Restart.{value_in, unread, read, restored, Reading}
 use Rattle.restart.proofs.Fitting.{fitting}
 use Rattle.restart.proofs.Steps.{by_form}
 

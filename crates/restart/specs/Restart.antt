@@ -1,12 +1,38 @@
 -- The restart: an opening table and a journal, cut or damaged anywhere, to the table with the values after the last whole commit.
-use Rattle.std.specs.Prelude.{ℕ, zero, suc, ◌+◌, ◌*◌, ◌/◌, Bool, true, false, cond, ◌&&◌, List, eqb, leb, ℤ, pos, neg_ℤ, get_or, set, length}
+use Rattle.std.specs.Prelude.{ℕ, ◌+◌, ◌*◌, ◌/◌, Bool, true, false, cond, ◌&&◌, List, eqb, leb, ℤ, pos, neg_ℤ, set, length, Option, Some, None, Result, Ok, Err}
 use Rattle.runs.specs.Runs.{after}
-use Rattle.words.specs.Bytes.{byte, word_at, four_bytes}
+use Rattle.words.specs.Bytes.{byte, word_at}
 use Rattle.table.specs.Table.{floor_at, ceiling_at, wrong}
+use Rattle.table.specs.declared.WrongTable.{WrongTable}
 use Rattle.board.specs.Opening.{opening}
-use Rattle.pieces.specs.Pieces.{eights_of}
-use Rattle.records.specs.Records.{room, over}
-use Rattle.restart.specs.declared.reading.Reading.{Reading}
+use Rattle.pieces.specs.Pieces.{eights_of, put_each}
+use Rattle.records.specs.Records.{room}
+use Rattle.restart.specs.declared.reader.Reader.{Reader}
+
+-- ---- how far it is read
+
+-- the whole commits so far and the values after them; of the commit that is being read, how many items, the lowest that may come next,
+-- and the values with these; and whether the reading has stopped
+pub record Reading : Type 0 where
+  pub commits : ℕ
+  pub whole : List ℕ
+  pub items : ℕ
+  pub next : ℕ
+  pub values : List ℕ
+  pub stopped : Bool
+
+-- a reader that goes on
+abbrev pub going : Reader → Reading
+going r = record { commits = r.commits; whole = r.whole; items = r.items; next = r.next; values = r.values; stopped = false }
+
+-- what a reading has read, whether it has stopped or not
+abbrev pub as_if_going : Reading → Reading
+as_if_going at =
+    record { commits = at.commits; whole = at.whole; items = at.items; next = at.next; values = at.values; stopped = false }
+
+-- the reading, unless it has stopped
+abbrev pub still : Reading → Option Reading
+still at = cond at.stopped None (Some at)
 
 -- ---- a record
 
@@ -70,13 +96,14 @@ restored t j = after (read t) (unread (opening t).values) (eights_of j (room (le
 
 -- ---- the table after it
 
--- the values vs in the first n rows
-unfoldable pub rewritten : List ℕ → List ℕ → ℕ → List ℕ
-rewritten t vs zero = t
-rewritten t vs (suc i) = over (rewritten t vs i) (16 * i + 8) (four_bytes (get_or vs i 0))
-
+-- the values vs in its rows, at byte 8 of the 16
 abbrev pub with_values : List ℕ → List ℕ → List ℕ
-with_values t vs = rewritten t vs 64
+with_values t vs = put_each 8 16 t vs 64
+
+-- the number that is told: the count, or minus that of the refusal
+abbrev pub number_of : Result ℕ WrongTable → ℤ
+number_of (Ok n) = pos n
+number_of (Err e) = neg_ℤ (pos 10)
 
 -- the number returned, and the table then
 pub data Restarted : Type 0 where

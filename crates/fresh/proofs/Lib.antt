@@ -1,0 +1,2 @@
+-- Opened: what a host is left with, by what an opening gives.
+pub mod Opened
