@@ -8,7 +8,8 @@ use std::io::{self, Read};
 pub const MOST: usize = 33807;
 
 // Reads until the buffer is full or the input ends: how many bytes stand at its front, which the input began with and has no more.
-// It stops short only where nothing is left.
+// It stops short only where nothing is left. No form is plainer: each turn goes on by what a read gave, and std's read_exact and read_to_end
+// say too little for these clauses.
 pub fn read_full<R: Read>(reader: &mut R, buffer: &mut [u8]) -> io::Result<usize>
     ensures bound { IfOk result (λ n. n ≤ length buffer.new) }
     ensures bytes { IfOk result (λ n. Consumes (R.remaining reader.old) (R.remaining reader.new) (take n buffer.new)) }
@@ -37,15 +38,13 @@ fn piece(reader: &mut impl Read) -> io::Result<usize>
 pub fn rest(reader: &mut impl Read) -> io::Result<usize>
     ensures { IfOk result (λ n. n < 8) }
 {
-    let mut sum: usize = 0;
-    let mut turns = u64::MAX;
-    while turns > 0 {
+    let mut sum = 0;
+    for _ in 0..u64::MAX {
         let n = piece(reader)?;
         if n == 0 {
             return Ok(sum);
         }
         sum = (sum + n) % 8;
-        turns -= 1;
     }
     Ok(sum)
 }

@@ -11,8 +11,8 @@ ghost use Rattle.restart.specs.Restart.{Restarted, restarted};
 use fresh::open;
 use journal::Journaled;
 use journaling::host::tell;
-use journaling::run::complete;
-use lent::{minus, refusal};
+use journaling::run::run;
+use lent::{RunRefusal, as_number};
 use restart::restart;
 
 // A whole run with a journal: as hub_run, and each commit's records stand in the journal. A refused run leaves the journal as it is.
@@ -25,20 +25,21 @@ pub fn hub_run_journal(
 ) -> i64
     ensures { Outcome.told result answers.new values.new journal.new ≡ outcome table.now requests.now answers.old values.old journal.old }
 {
-    let refused = refusal(table, requests.len(), answers.len(), values.len());
-    if refused != 0 {
-        return minus(refused);
-    }
-    complete(table, requests, answers, values, journal)
+    as_number(run(table, requests, answers, values, journal))
 }
 
 // A fresh board of the table with an empty journal, and 0; of a wrong table -10, and both stay as they are.
+#[tactic(auto, unfolding(fresh::specs::Fresh::opened_of, fresh::specs::Fresh::opened_by))]
 pub fn hub_open_journal(board: &mut Journaled, table: &[u8], journal: &mut [u8]) -> i64
     ensures { (result ≡ (opened_by board.old table.now).code) × (board.new ≡ (opened_by board.old table.now).board) × (journal.new ≡ journal_opened table.now journal.old) }
 {
-    let o = open(*board, table, journal);
-    *board = o.board;
-    o.code
+    match open(table, journal) {
+        Ok(fresh) => {
+            *board = fresh;
+            0
+        }
+        Err(wrong) => RunRefusal::from(wrong).into(),
+    }
 }
 
 // One request of any 8 bytes, on a board that an opening and such calls have left, over any journal.
@@ -51,15 +52,12 @@ pub fn hub_step_journal(
     requires { Reached board.old }
     ensures { (board.new ≡ (stepped_by board.old (length journal.old) request.now).board) × (answer.new ≡ (stepped_by board.old (length journal.old) request.now).bytes) × (journal.new ≡ journal_after board.old journal.old request.now) }
 {
-    let t = tell(*board, *request, journal);
-    *board = t.board;
-    let bytes = t.bytes;
-    *answer = bytes;
+    *answer = tell(board, *request, journal);
 }
 
 // How many commits of the journal are whole, and the table with the values after them; of a wrong table -10, and it stays as it is.
 pub fn hub_restart(table: &mut [u8], journal: &[u8]) -> i64
     ensures { Restarted.told result table.new ≡ restarted table.old journal.now }
 {
-    restart(table, journal)
+    restart(table, journal).map_or_else(|wrong| RunRefusal::from(wrong).into(), i64::from)
 }

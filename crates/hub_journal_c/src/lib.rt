@@ -1,4 +1,5 @@
 // The calls with a journal as a C host links them: each does what the call of its name in the crate hub_journal does, and promises the same.
+// They stand twice, since a crate is a library or a static library and not both.
 #![tactic(auto)]
 
 ghost use Rattle.std.specs.Prelude.{◌≡◌, length};

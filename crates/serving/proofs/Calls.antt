@@ -1,6 +1,6 @@
 -- Calls of hub_step say what a run says: the same rules one request at a time, and requests in one piece come apart again.
 use Prim.Native.Nat.{ℕ, ◌*◌}
-use mathlib.Core.Path.{◌≡◌, ap, sym, ◌∙◌, subst}
+use mathlib.Core.Path.{◌≡◌, ap, ◌∙◌, subst}
 use mathlib.Core.Bool.{false}
 use mathlib.Core.List.{List}
 use native.Mathlib.Omega.{arith}
@@ -13,10 +13,10 @@ use Rattle.board.specs.Rules.{next, reply}
 use Rattle.board.specs.Opening.{opening}
 use Rattle.board.specs.declared.Board.{Board}
 use Rattle.board.proofs.Reached.{reached_opening, reached_step}
-use Rattle.pieces.specs.Pieces.{eights_in, in_one}
-use Rattle.serving.specs.Run.{told, completed, outcome, opened_by, stepped_by}
+use Rattle.pieces.specs.Pieces.{in_one}
+use Rattle.serving.specs.Run.{completed, outcome, opened_by, stepped_by}
 use Rattle.serving.specs.Calls.{OpenReaches, OpenKeeps, StepKeeps, CallsAreRun}
-use Rattle.lent.proofs.Refused.{refuses_none, completed_run}
+use Rattle.lent.proofs.Refused.{refuses_none}
 use Rattle.lent.proofs.Served.{written_served, eight_long}
 use Rattle.pieces.proofs.Eights.{in_one-length, apart}
 
@@ -45,5 +45,5 @@ pub calls_are_run : CallsAreRun
 unfolding outcome stepped_by
 calls_are_run b t right qs eights most a v room wide =
     let long : length (in_one qs) ≡ 8 * length qs = in_one-length qs (eight_long qs eights) in
-    sym (completed_run (λ z. told z a v) (completed (opening t) (eights_in (in_one qs)) a v) _ (refuses_none t (length (in_one qs)) (length a) (length v) right (omega arith) (omega arith) (omega arith) wide))
-    ∙ ap (λ (l : List (List ℕ)). completed (opening t) l a v) (apart qs (eight_long qs eights)) ∙ rw (opened_right b t right, written_served next reply)
+    rw (refuses_none t (length (in_one qs)) (length a) (length v) right (omega arith) (omega arith) (omega arith) wide)
+    (ap (λ (l : List (List ℕ)). completed (opening t) l a v) (apart qs (eight_long qs eights)) ∙ rw (opened_right b t right, written_served next reply))

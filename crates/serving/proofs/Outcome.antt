@@ -1,27 +1,29 @@
--- A run that returns no negative number was not refused.
-use Prim.Native.Nat.{ℕ, zero, suc}
-use mathlib.Core.Path.{◌≡◌, refl, sym, ◌∙◌}
-use mathlib.Core.Bool.{true, false}
+-- A run that gives a count was not refused.
+use Prim.Native.Nat.{ℕ}
+use mathlib.Core.Path.{◌≡◌, refl}
 use mathlib.Core.List.{List}
-use lib.IntN.{ℤ, pos, neg_ℤ}
-use lib.Signed.{lt_z}
+use lib.IntN.{pos}
 use lib.ListN.{length}
-use Rattle.items.proofs.Tests.{by_equal, clash}
-use Rattle.board.specs.Opening.{opening}
-use Rattle.pieces.specs.Pieces.{eights_in}
-use Rattle.lent.specs.Refusals.{refusal}
-use Rattle.lent.proofs.Refused.{Accepted, accepted, refused_run}
-use Rattle.serving.specs.Run.{told, completed, outcome}
+use Rattle.std.specs.Prelude.{Option, Some, None, Err}
+use Rattle.wire.specs.Checks.{unless}
+use Rattle.lent.specs.Refusals.{refusal, as_number}
+use Rattle.lent.specs.declared.RunRefusal.{RunRefusal}
+use Rattle.lent.specs.declared.RunRefusal.TheVariants.{WrongTable, RequestsLength, AnswersLength, ValuesLength, TooManyRequests}
+use Rattle.lent.proofs.Refused.{Accepted, accepted}
+use Rattle.serving.specs.Run.{Outcome, told, outcome}
 
-negative : (n : ℕ) → (n ≡ 0 → ⊥) → lt_z (neg_ℤ (pos n)) (pos 0) ≡ true
-negative zero h = absurd (h refl)
-negative (suc n) h = refl
+-- no refusal is told as a count
+no_count : (r : RunRefusal) {n : ℕ} → pos n ≡ as_number (Err r) → ⊥
+no_count WrongTable e = cc
+no_count RequestsLength e = cc
+no_count AnswersLength e = cc
+no_count ValuesLength e = cc
+no_count TooManyRequests e = cc
 
-pub answered : (t q a v : List ℕ) {a' v' : List ℕ} (z : ℤ) → told z a' v' ≡ outcome t q a v → lt_z z (pos 0) ≡ false → Accepted t (length q) (length a) (length v)
+counted : (o : Option RunRefusal) (a v : List ℕ) (left : Outcome) {n : ℕ} {a' v' : List ℕ} → told (pos n) a' v' ≡ unless o (λ r. told (as_number (Err r)) a v) left → o ≡ None
+counted None a v left e = refl
+counted (Some r) a v left {n} e = absurd (no_count r {n = n} (cc))
+
+pub answered : (t q a v : List ℕ) {n : ℕ} {a' v' : List ℕ} → told (pos n) a' v' ≡ outcome t q a v → Accepted t (length q) (length a) (length v)
 unfolding outcome
-answered t q a v {a'} {v'} z e h =
-    let n = refusal t (length q) (length a) (length v) in
-    by_equal n 0 (λ none. accepted t (length q) (length a) (length v) (sym none))
-    (λ some. let refused : told z a' v' ≡ told (neg_ℤ (pos n)) a v = e ∙ sym (refused_run (λ y. told y a v) (completed (opening t) (eights_in q) a v) n n refl some) in
-    let same : z ≡ neg_ℤ (pos n) = cc in
-    clash (rw same (negative n some)) h)
+answered t q a v e = accepted t (length q) (length a) (length v) (counted (refusal t (length q) (length a) (length v)) a v _ e)

@@ -1,46 +1,30 @@
-// What the exported calls over a host's board do, with the board by value.
+// What the exported calls over a host's board do.
 ghost use Rattle.std.specs.Prelude.{◌≡◌};
-ghost use Rattle.board.specs.Reached.{Reached};
-ghost use Rattle.serving.specs.Run.{opened_by, stepped_by};
+ghost use Rattle.words.specs.Bytes.{byte};
+ghost use Rattle.wire.specs.Answers.{encode};
+ghost use Rattle.serving.specs.Run.{opened_of};
 
 use crate::run::serve;
+use crate::serves::Serves;
 use board::Board;
 use opening::opening;
-use table::wrong;
+use table::{WrongTable, check};
 
-// The board, and the number that is returned.
-#[derive(Clone, Copy)]
-pub struct Opened {
-    pub board: Board,
-    pub code: i64,
-}
-
-// The board, and the answer's bytes.
-#[derive(Clone, Copy)]
-pub struct Told {
-    pub board: Board,
-    pub bytes: [u8; 12],
-}
-
-pub fn open(b: Board, table: &[u8]) -> Opened
-    ensures { result ≡ opened_by b table.now }
+// The board of the table.
+#[tactic(auto, using(table::proofs::Rows::is_wrong, table::proofs::Rows::checked_is, table::proofs::Rows::checked_not), unfolding(crate::specs::Run::opened_of))]
+pub fn open(table: &[u8]) -> Result<Board, WrongTable>
+    ensures { result ≡ opened_of table.now }
 {
-    if wrong(table) {
-        return Opened {
-            board: b,
-            code: -10,
-        };
-    }
-    let board = opening(table);
-    Opened { board, code: 0 }
+    let rows = check(table)?;
+    Ok(opening(rows))
 }
 
-// A run of one request: so that the one place where a request is served is the loop of a run.
-pub fn tell(b: Board, request: [u8; 8]) -> Told
-    requires { Reached b }
-    ensures { result ≡ stepped_by b request }
+// One request, and the bytes of its answer. It is a run of one request: so that the one place where a request is served is the loop of a run.
+pub fn tell<B: Serves>(board: &mut B, request: [u8; 8]) -> [u8; 12]
+    requires { B.Ready board.old }
+    ensures { (board.new ≡ B.next board.old request) × (result ≡ encode (byte request 1) (B.reply board.old request)) }
 {
     let mut bytes = [0u8; 12];
-    let board = serve(b, &request, &mut bytes);
-    Told { board, bytes }
+    serve(board, &request, &mut bytes);
+    bytes
 }

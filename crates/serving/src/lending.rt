@@ -1,37 +1,32 @@
-// One board record is lent to each call and altered there.
-ghost use Rattle.std.specs.Prelude.{◌≡◌};
-ghost use Rattle.board.specs.Rules.{step};
+// The board serves requests: one board record is lent to each call and altered there.
+ghost use Rattle.board.specs.Rules.{next, reply};
 ghost use Rattle.board.specs.Reached.{Reached};
+ghost use Rattle.board.proofs.Reached.{reached_step};
 
-use board::{Board, Stepped};
+use crate::serves::Serves;
+use board::Board;
 use stepping::step;
 use wire::Answer;
 
-// One request: the board is altered where it lies.
-pub fn step_in(board: &mut Board, request: [u8; 8]) -> Answer
-    requires { Reached board.old }
-    ensures { (result ≡ (step board.old request).answer) × (board.new ≡ (step board.old request).board) }
-{
-    let s = step(*board, request);
-    *board = s.board;
-    s.answer
-}
+impl Serves for Board {
+    ghost Ready = { Reached };
 
-// The board is put into a local, which is lent.
-pub fn lend(b: Board, request: [u8; 8]) -> Stepped
-    requires { Reached b }
-    ensures { result ≡ step b request }
-{
-    let mut board = b;
-    let answer = step_in(&mut board, request);
-    Stepped { board, answer }
-}
+    ghost next = { next };
 
-// A run's next request, from what the one before it left.
-pub fn next(last: Stepped, request: [u8; 8]) -> Stepped
-    requires { Reached last.board }
-    ensures { result ≡ step last.board request }
-{
-    let board = last.board;
-    lend(board, request)
+    ghost reply = { reply };
+
+    ghost values = { λ b. b.values };
+
+    ghost keeps = { λ b q bytes r. reached_step r q bytes };
+
+    // A thin wrapper over the step by value.
+    fn step_in(&mut self, request: [u8; 8]) -> Answer {
+        let stepped = step(*self, request);
+        *self = stepped.board;
+        stepped.answer
+    }
+
+    fn values(&self) -> [u32; 64] {
+        self.values
+    }
 }

@@ -1,53 +1,66 @@
 // A whole run: the requests one after another.
-ghost use Rattle.std.specs.Prelude.{◌≡◌, ◌++◌, ◌*◌, ◌/◌, ◌≤◌, length, drop};
+ghost use Rattle.std.specs.Prelude.{◌≡◌, ◌++◌, ◌*◌, ◌/◌, ◌≤◌, length, drop, pos, None, IfOk};
 ghost use Rattle.runs.specs.Runs.{after};
-ghost use Rattle.board.specs.Rules.{next, reply};
 ghost use Rattle.board.specs.Opening.{opening};
-ghost use Rattle.board.specs.Reached.{Reached};
-ghost use Rattle.pieces.specs.Pieces.{eights_in};
+ghost use Rattle.pieces.specs.Pieces.{eights_in, four_each};
 ghost use Rattle.lent.specs.Served.{served};
-ghost use Rattle.lent.specs.Refusals.{refusal};
-ghost use Rattle.serving.specs.Run.{Outcome, completed};
+ghost use Rattle.lent.specs.Refusals.{refusal, as_number};
+ghost use Rattle.serving.specs.Run.{Outcome, completed, outcome};
 
-use crate::lending::next;
-use board::{Board, Stepped};
+use crate::serves::Serves;
 use encoding::encode;
+use lent::{RunRefusal, accept};
 use opening::opening;
-use pieces::{eight, put, put_values};
-use wire::Answer;
+use pieces::{put, put_values};
 
-// Hands the requests over one at a time and writes each answer after the one before it. The loop carries what the last request left:
-// so that the board is copied no more than lending it asks.
-pub fn serve(board: Board, requests: &[u8], answers: &mut [u8]) -> Board
-    requires reached { Reached board }
+// Hands the requests over one at a time and writes each answer after the one before it.
+pub fn serve<B: Serves>(board: &mut B, requests: &[u8], answers: &mut [u8])
+    requires reached { B.Ready board.old }
     requires requests_in_bounds { 12 * (length requests.now / 8) ≤ length answers.old }
-    ensures value { result ≡ after next board (eights_in requests.now) }
-    ensures answers_after { answers.new ≡ served next reply board (eights_in requests.now) ++ drop (12 * (length requests.now / 8)) answers.old }
+    ensures value { board.new ≡ after B.next board.old (eights_in requests.now) }
+    ensures answers_after { answers.new ≡ served B.next B.reply board.old (eights_in requests.now) ++ drop (12 * (length requests.now / 8)) answers.old }
 {
-    let count = requests.len() / 8;
-    let mut last = Stepped {
-        board,
-        answer: Answer::Abandoned,
-    };
-    let mut k = 0;
-    while k < count {
-        let request = eight(requests, 8 * k);
-        last = next(last, request);
-        let answer = last.answer;
+    let (eights, _) = requests.as_chunks::<8>();
+    for (k, request) in eights.iter().enumerate() {
+        let answer = board.step_in(*request);
         let bytes = encode(request[1], answer);
         put(answers, 12 * k, &bytes);
-        k += 1;
     }
-    last.board
 }
 
-// A run that is not refused: the answers, the final values and the count of answers.
-pub fn complete(table: &[u8], requests: &[u8], answers: &mut [u8], values: &mut [u8]) -> i64
-    requires { 0 ≡ refusal table.now (length requests.now) (length answers.old) (length values.old) }
-    ensures { Outcome.told result answers.new values.new ≡ completed (opening table.now) (eights_in requests.now) answers.old values.old }
+// The same, and the values at the end.
+pub fn fill<B: Serves>(board: &mut B, requests: &[u8], answers: &mut [u8], values: &mut [u8])
+    requires reached { B.Ready board.old }
+    requires room { 12 * (length requests.now / 8) ≤ length answers.old }
+    requires wide { 256 ≤ length values.old }
+    ensures value { board.new ≡ after B.next board.old (eights_in requests.now) }
+    ensures answers_after { answers.new ≡ served B.next B.reply board.old (eights_in requests.now) ++ drop (12 * (length requests.now / 8)) answers.old }
+    ensures values_after { values.new ≡ four_each (B.values board.new) ++ drop 256 values.old }
 {
-    let last = serve(opening(table), requests, answers);
-    let left = last.values;
-    put_values(values, left);
-    (requests.len() / 8) as i64
+    serve(board, requests, answers);
+    put_values(values, board.values());
+}
+
+// A run that is not refused: the answers, the final values and the count of answers. With a journal it opens another board (journaling).
+pub fn complete(table: &[u8; 1024], requests: &[u8], answers: &mut [u8], values: &mut [u8]) -> usize
+    requires { refusal table.now (length requests.now) (length answers.old) (length values.old) ≡ None }
+    ensures { Outcome.told (pos result) answers.new values.new ≡ completed (opening table.now) (eights_in requests.now) answers.old values.old }
+{
+    let mut board = opening(table);
+    fill(&mut board, requests, answers, values);
+    requests.len() / 8
+}
+
+// A whole run: the count of answers, or why it is refused. It supposes nothing.
+pub fn run(
+    table: &[u8],
+    requests: &[u8],
+    answers: &mut [u8],
+    values: &mut [u8],
+) -> Result<usize, RunRefusal>
+    ensures value { Outcome.told (as_number result) answers.new values.new ≡ outcome table.now requests.now answers.old values.old }
+    ensures most { IfOk result (λ count. count ≤ 4096) }
+{
+    let rows = accept(table, requests.len(), answers.len(), values.len())?;
+    Ok(complete(rows, requests, answers, values))
 }

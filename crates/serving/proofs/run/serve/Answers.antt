@@ -1,9 +1,5 @@
 -- The loop keeps its invariant, and at its end that is what is promised.
-use Prim.Native.Nat.{ℕ, ◌*◌, ◌/◌}
-use Rattle.board.proofs.Reached.{reached_step}
-use Rattle.board.specs.Rules.{step, next, reply}
-use Rattle.board.specs.declared.Board.{Board}
-use Rattle.board.specs.declared.Stepped.{Stepped}
+use Prim.Native.Nat.{ℕ, zero, suc, ◌+◌, ◌*◌, ◌/◌, ◌<◌}
 use Rattle.lent.proofs.Served.{encode-length, next-board, next-answer, answers-length}
 use Rattle.lent.specs.Served.{twelve_each, served}
 use Rattle.pieces.proofs.Buffers.{turn}
@@ -12,45 +8,43 @@ use Rattle.pieces.specs.Pieces.{eights_of}
 use Rattle.runs.specs.Runs.{after}
 use Rattle.wire.specs.Answers.{encode}
 use Rattle.words.specs.Bytes.{byte}
-use lib.ListN.{length}
-use mathlib.Core.List.{List, ◌++◌}
+use lib.ListN.{length, get_or, take, drop}
+use lib.Seq.{drop-drop}
+use Rattle.std.specs.Simd.{first_chunks}
+use mathlib.Core.List.{List, [], ◌++◌}
 use mathlib.Core.Path.{◌≡◌, refl, sym, ap, ◌∙◌}
 use native.Mathlib.Omega.{arith}
 use Rattle.serving.proofs.run.serve.Goals as goal
 
+-- piece k of the pieces that are gone through
+chunk_at : (m k : ℕ) (s : List ℕ) → k < m → get_or (first_chunks 8 m s) k [] ≡ eight_at s k
+chunk_at zero k s h = absurd (omega arith)
+chunk_at (suc m) zero s h = refl
+chunk_at (suc m) (suc k) s h =
+    let e : 8 + 8 * k ≡ 8 * suc k = omega arith in
+    chunk_at m k (drop 8 s) (omega arith) ∙ ap (take 8) (drop-drop (8 * k) 8 s ∙ ap (λ (n : ℕ). drop n s) e)
+
 pub loop-k-init : goal.loop-k-init
 unfolding eights_of twelve_each
-loop-k-init c = (omega arith, refl, refl, refl, c.requires.reached)
-
-pub next-last-requires : goal.next-last-requires
-next-last-requires c = c.loop-k.invariant.4
-
-pub put-requires : goal.put-requires
-put-requires c = omega (arith, ap length c.encode-bytes.ensures ∙ encode-length _ _)
+loop-k-init g c = record { board = refl; answers = refl; length = refl; ready = c.requires.reached }
 
 pub loop-k-preserved : goal.loop-k-preserved
-loop-k-preserved c =
+loop-k-preserved g c =
     let a = c.args in
-    let b = a.board in
+    let B = g.B.Serves in
     let s = a.requests.now in
     let k = c.loop-k.k in
     let q = eight_at s k in
-    let asked : c.eight-request.result ≡ q = c.eight-request.ensures in
-    let stepped : c.next-last.result ≡ step c.loop-k.last.board q = c.next-last.ensures ∙ ap (step c.loop-k.last.board) asked in
-    let followed : c.next-last.result ≡ step (after next b (eights_of s k)) q = stepped ∙ ap (λ (d : Board). step d q) c.loop-k.invariant.1 in
-    let told : c.encode-bytes.result ≡ encode (byte q 1) (reply (after next b (eights_of s k)) q) = c.encode-bytes.ensures ∙ (λ i. encode (byte (asked i) 1) (followed i).answer) in (
-      omega arith,
-      ap (λ (r : Stepped). r.board) followed ∙ sym (next-board next reply b s k),
-      turn (λ n. served next reply b (eights_of s n)) 12 k a.answers.now c.loop-k.answers c.put.new.buffer c.encode-bytes.result
-          (answers-length next reply b s k) (next-answer next reply b s k ∙ ap (λ (r : List ℕ). served next reply b (eights_of s k) ++ r) (sym told)) (ap length told ∙ encode-length _ _) c.loop-k.invariant.2 c.put.ensures,
-      c.put.auto.buffer ∙ c.loop-k.invariant.3,
-      rw stepped (reached_step c.loop-k.invariant.4 q (part_bytes s (8 * k) 8 (λ i. omega (arith, c.shared_slice_known-1.given i)) (omega arith))),
-    )
-
-pub shape_of-answers : goal.shape_of-answers
-shape_of-answers c = c.loop-k.invariant.3
-
-pub returns : goal.returns
-returns c =
-    let e : c.loop-k.k ≡ length c.args.requests.now / 8 = omega arith in
-    record { value = rw e at c.loop-k.invariant.1; answers_after = rw e at c.loop-k.invariant.2 }
+    let last = after B.next a.board.now (eights_of s k) in
+    let in_range : k < length s / 8 = omega (arith, c.as_chunks.ensures.front_len) in
+    let asked = ap (λ (l : List (List ℕ)). get_or l k []) c.as_chunks.ensures.front ∙ chunk_at (length s / 8) k s in_range in
+    let board : c.step_in-answer.new.self ≡ B.next last q = c.step_in-answer.ensures.1 ∙ (λ i. B.next (c.loop-k.invariant.board i) (asked i)) in
+    let reply : c.step_in-answer.result ≡ B.reply last q = c.step_in-answer.ensures.0 ∙ (λ i. B.reply (c.loop-k.invariant.board i) (asked i)) in
+    let told : c.encode-bytes.result ≡ encode (byte q 1) (B.reply last q) = c.encode-bytes.ensures ∙ (λ i. encode (byte (asked i) 1) (reply i)) in
+    record {
+      board = board ∙ sym (next-board B.next B.reply a.board.now s k);
+      answers = turn (λ n. served B.next B.reply a.board.now (eights_of s n)) 12 k a.answers.now c.loop-k.answers c.put.new.buffer c.encode-bytes.result
+          (answers-length B.next B.reply a.board.now s k) (next-answer B.next B.reply a.board.now s k ∙ ap (λ (r : List ℕ). served B.next B.reply a.board.now (eights_of s k) ++ r) (sym told)) (ap length told ∙ encode-length _ _) c.loop-k.invariant.answers c.put.ensures;
+      length = c.put.auto.buffer ∙ c.loop-k.invariant.length;
+      ready = rw (board, ← c.loop-k.invariant.board) (g.met.B.Serves.keeps c.loop-k.board q (part_bytes s (8 * k) 8 (λ i. omega (arith, c.type_inv.requests i)) (omega arith)) c.loop-k.invariant.ready);
+    }
