@@ -1,4 +1,6 @@
 // What is answered to a request: checks 4 to 9 in their order, then the locks or the end's validation. The board is only read.
+// Board and seat go side by side: a struct of the two would be made and taken apart in each of these short functions.
+// `Counted` is required, since C lends a board of any bytes (board, src/).
 #![tactic(auto)]
 
 ghost use Rattle.std.specs.Prelude.{◌≡◌};

@@ -2,7 +2,7 @@
 use std::io;
 use words::number_at;
 
-// Desk, code, item, reason, first and second number of an answer.
+// Desk, code, item, reason, first and second number of an answer: bytes, which no type of the repository reads back, so no Display.
 fn print_answer(rt: &impl Print, answer: &[u8; 12]) -> io::Result<()> {
     let [code, desk, item, reason, ..] = *answer;
     let first = number_at(answer, 4);

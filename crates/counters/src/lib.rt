@@ -1,5 +1,6 @@
 // Ages and transaction numbers: two counters, never compared with each other.
 // So they are two types, each with its zero and its next one, and not one generic counter that could be handed over for the other.
+// The bound 2,000 is required where it is needed, and is no invariant of the types: C lends a board whose counters may be any.
 // Both begin at 0, the first one given is 1, and the hub gives no age above 2,000 and so no number above it.
 #![tactic(auto)]
 

@@ -8,7 +8,7 @@ use places::Seat;
 use wire::{Refusal, Request};
 use words::number;
 
-// The request of a kind that is 1 to 5.
+// The request of a kind, if it is one of the five.
 #[tactic(auto, unfolding(wire::specs::Requests::request_of))]
 fn request_of(kind: u8, item: u8, value: u32) -> Option<Request>
     ensures { result ≡ request_in kind item value }
@@ -24,7 +24,7 @@ fn request_of(kind: u8, item: u8, value: u32) -> Option<Request>
 }
 
 // The fields that the kind does not use are zero: the item but of a read or a write, the value but of a write, byte 3 always.
-// The kind stays the record's byte here, as in the rule of this name: of a request that was made of it the unused fields are gone.
+// The kind stays the record's byte: the rule `unused_zero` (wire, specs/Requests) is about bytes, as they come.
 #[tactic(auto, unfolding(wire::specs::Requests::unused_zero))]
 fn unused_zero(kind: u8, item: u8, spare: u8, value: u32) -> bool
     ensures { result ≡ unused_zero kind item spare value }
@@ -32,7 +32,7 @@ fn unused_zero(kind: u8, item: u8, spare: u8, value: u32) -> bool
     spare == 0 && (kind == 2 || kind == 3 || item == 0) && (kind == 3 || value == 0)
 }
 
-// The value of a write, 0 of any other.
+// The value of a write; 0 of any other, as in the rule `value_in` (wire, specs/Requests).
 fn value(request: Request) -> u32
     ensures { result ≡ value_in request }
 {

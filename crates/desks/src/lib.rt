@@ -9,6 +9,7 @@ use items::Items;
 
 // A desk's record: its open transaction, or all zero but for an age kept from an abort. It has no padding, so that it is copied whole,
 // and any bytes are one, since C lends them (hub_open takes whatever stands there): so a number says what is open, and 0 is no age kept.
+// Its copies stand for all items: there is no heap.
 #[repr(C)]
 #[derive(Clone, Copy)]
 pub struct Desk {

@@ -16,6 +16,7 @@ fn record(code: u8, desk: u8, item: u8, reason: u8, first: u32, second: u32) -> 
 }
 
 // The record of an answer to a request with this desk byte. A function and no From: it is made of two values.
+// Its codes and reasons are the bytes that C reads.
 #[tactic(auto, unfolding(wire::specs::Answers::encode))]
 pub fn encode(desk: u8, a: Answer) -> [u8; 12]
     ensures { result ≡ encode desk a }

@@ -31,6 +31,7 @@ pub fn fresh(table: &[u8; 1024], journal: &mut [u8]) -> Journaled
     }
 }
 
+// Without a journal another board is opened, and no buffer cleared (serving).
 // The same, of a table that is right; of a wrong one the journal stays as it is.
 #[tactic(auto, using(table::proofs::Rows::is_wrong, table::proofs::Rows::checked_is, table::proofs::Rows::checked_not), unfolding(crate::specs::Fresh::opened_of, crate::specs::Fresh::journal_opened))]
 pub fn open(table: &[u8], journal: &mut [u8]) -> Result<Journaled, WrongTable>

@@ -1,3 +1,4 @@
+// These are C's calls, each beside its twin in hub: so they tell a refusal by its number.
 // The hub with a journal of its commits: a whole run, one request at a time over a board that a host keeps, and a restart from the journal.
 #![tactic(auto)]
 

@@ -58,7 +58,7 @@ impl Items {
         Items(self.0 | other.0)
     }
 
-    // No item is in the set.
+    // No item is in the set. Its one number is compared: `==` of two sets would need a derive for this line alone.
     #[tactic(auto, using(crate::proofs::Laws::empty_zero))]
     pub fn is_empty(self) -> bool
         ensures { result ≡ empty self }

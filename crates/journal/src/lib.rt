@@ -16,7 +16,7 @@ use records::{append, room, size};
 use stepping::following::follow;
 use wire::{Answer, Refusal};
 
-// A board, and how many bytes of its journal hold records.
+// A board, and how many bytes of its journal hold records. C lends the two apart, so the journal is not in it.
 #[repr(C)]
 #[derive(Clone, Copy)]
 pub struct Journaled {
@@ -50,6 +50,7 @@ fn recorded(journal: &mut [u8], used: usize, k: Desk, answer: Answer) -> usize
     }
 }
 
+// It is not the step of the board without one: room is asked for between the answer and the board after it.
 // One request of 8 bytes, whatever they are, over any journal. Of the board it supposes only what an opening and such calls can have left.
 #[tactic(auto, unfolding(crate::specs::Journal::step, crate::specs::Journal::journal_after, crate::specs::Journal::answer_in))]
 pub fn step(s: Journaled, request: [u8; 8], journal: &mut [u8]) -> Stepped<Journaled>

@@ -1,4 +1,4 @@
-// A whole run with a journal.
+// A whole run with a journal: C lends one buffer more than to a run without, and another board is opened, so both stand.
 ghost use Rattle.std.specs.Prelude.{◌≡◌, ◌≤◌, length, pos, None, IfOk};
 ghost use Rattle.pieces.specs.Pieces.{eights_in};
 ghost use Rattle.lent.specs.Refusals.{refusal, as_number};

@@ -47,6 +47,7 @@ impl From<table::WrongTable> for RunRefusal {
     }
 }
 
+// C lends the table and the buffers apart, so their lengths come one by one.
 // The table's rows, where a run on it with these lengths is not refused.
 #[tactic(auto, using(table::proofs::Rows::checked_is, std::proofs::lemmas::Bool::Decides::nat_tests), unfolding(crate::specs::Refusals::refusal))]
 pub fn accept(

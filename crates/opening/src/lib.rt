@@ -22,7 +22,7 @@ fn column(table: &[u8; 1024], at: usize) -> [u32; 64]
     array::from_fn(|i| number_at(table, 16 * i + at))
 }
 
-// The items whose kind is 1.
+// The items whose kind, the byte that C writes, is 1.
 #[tactic(auto, unfolding(board::specs::Opening::gathered))]
 fn guarded(table: &[u8; 1024]) -> Items
     ensures { result ≡ gathered (λ i. eqb (kind_at table.now i) 1) 64 }

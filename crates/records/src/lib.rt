@@ -11,6 +11,7 @@ use items::Items;
 use pieces::put;
 use places::Item;
 
+// The kind is a number, 1 or 2: a host keeps these bytes.
 // A record: byte 0 the kind, byte 1 the item, bytes 2 and 3 the number, bytes 4 to 7 the value.
 fn record(kind: u8, item: u8, number: Number, value: u32) -> [u8; 8]
     ensures { result ≡ record_of kind item number.0 value }

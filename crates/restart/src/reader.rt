@@ -2,7 +2,7 @@
 ghost use Rattle.std.specs.Prelude.{◌<◌, ◌≤◌};
 
 // The whole commits so far and the values after them; of the commit that is being read, how many items, the lowest that may come next,
-// and the values with these.
+// and the values with these. Two lists of values, since they are of two moments.
 #[derive(Clone, Copy)]
 pub struct Reader {
     pub commits: u32,

@@ -7,6 +7,7 @@ use opening::opening;
 use records::room;
 use words::{number, number_at};
 
+// The kinds 1 and 2 are the bytes that records puts into a journal.
 // Byte 0 is 1, the item is below 64 and above the one before it, the number follows the last one closed, and the value is within its limits.
 #[tactic(auto, unfolding(crate::specs::Restart::fits_item))]
 fn fits_item(table: &[u8; 1024], at: Reader, bytes: &[u8; 8]) -> bool

@@ -10,7 +10,7 @@ use board::Board;
 use opening::opening;
 use table::{WrongTable, check};
 
-// The board of the table.
+// The board of the table. With a journal another one is opened, and a buffer cleared (fresh).
 #[tactic(auto, using(table::proofs::Rows::is_wrong, table::proofs::Rows::checked_is, table::proofs::Rows::checked_not), unfolding(crate::specs::Run::opened_of))]
 pub fn open(table: &[u8]) -> Result<Board, WrongTable>
     ensures { result ≡ opened_of table.now }

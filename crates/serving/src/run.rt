@@ -13,7 +13,7 @@ use lent::{RunRefusal, accept};
 use opening::opening;
 use pieces::{put, put_values};
 
-// Hands the requests over one at a time and writes each answer after the one before it.
+// Hands the requests over one at a time and writes each answer after the one before it, at 12 times its place, as the rule `served` says.
 pub fn serve<B: Serves>(board: &mut B, requests: &[u8], answers: &mut [u8])
     requires reached { B.Ready board.old }
     requires requests_in_bounds { 12 * (length requests.now / 8) ≤ length answers.old }
@@ -41,7 +41,8 @@ pub fn fill<B: Serves>(board: &mut B, requests: &[u8], answers: &mut [u8], value
     put_values(values, board.values());
 }
 
-// A run that is not refused: the answers, the final values and the count of answers. With a journal it opens another board (journaling).
+// A run that is not refused: the answers, the final values and the count of answers. C lends the four slices; with a journal a run is lent
+// one more, and opens another board: so `complete` and `run` stand in journaling too, each of two calls.
 pub fn complete(table: &[u8; 1024], requests: &[u8], answers: &mut [u8], values: &mut [u8]) -> usize
     requires { refusal table.now (length requests.now) (length answers.old) (length values.old) ≡ None }
     ensures { Outcome.told (pos result) answers.new values.new ≡ completed (opening table.now) (eights_in requests.now) answers.old values.old }

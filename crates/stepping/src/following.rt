@@ -15,7 +15,7 @@ use wire::{Answer, Refusal, Request};
 fn last_given(last: Age, age: Age) -> Age
     ensures { result ≡ last_given last age }
 {
-    if last.below(age) { age } else { last }
+    last.max(age)
 }
 
 // An open item joins the open-read set; a guarded one joins the shared set if the desk has not written it.

@@ -12,6 +12,7 @@ use answering::answer;
 use board::{Board, Stepped};
 use decoding::decode;
 
+// With a journal there is another step (journal), since it asks for room between the answer and the board after it.
 // One request of 8 bytes, whatever they are. Of the board it supposes only what an opening and such calls can have left.
 #[tactic(auto, using(board::proofs::Reached::reached_sound, board::proofs::Reached::sound_counted, board::proofs::Bounds::answer_item), unfolding(board::specs::Rules::step))]
 pub fn step(board: Board, request: [u8; 8]) -> Stepped<Board>

@@ -11,6 +11,7 @@ use words::number_at;
 #[derive(Clone, Copy, Debug, PartialEq, Eq)]
 pub struct WrongTable;
 
+// The kind stays the byte that C writes; a row is found by its index, since the rule `row_right` speaks of places in the whole table.
 // Floor ≤ value ≤ ceiling, the kind is 0 or 1, and the last three bytes are zero.
 #[tactic(auto, unfolding(crate::specs::Table::row_right))]
 fn row_right(table: &[u8; 1024], i: usize) -> bool
