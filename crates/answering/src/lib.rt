@@ -106,7 +106,7 @@ fn told(allowed: Result<Answer, Refusal>) -> Answer
 {
     match allowed {
         Ok(answer) => answer,
-        Err(refusal) => Answer::Refused(refusal),
+        Err(refusal) => Answer::Refused(u8::from(refusal)),
     }
 }
 
@@ -132,6 +132,6 @@ pub fn answer(b: &Board, asked: &Result<(Seat, Request), Refusal>) -> Answer
 {
     match asked {
         Ok((d, request)) => answered(b, *d, *request),
-        Err(refusal) => Answer::Refused(*refusal),
+        Err(refusal) => Answer::Refused(u8::from(*refusal)),
     }
 }

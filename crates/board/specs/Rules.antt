@@ -9,6 +9,7 @@ use Rattle.counters.specs.declared.Age.{Age}
 use Rattle.counters.specs.declared.Number.{Number}
 use Rattle.wire.specs.Checks.{Check, ◌fails◌, first_failing, unless}
 use Rattle.wire.specs.Requests.{Decoded, decode, desk_of, value_of}
+use Rattle.wire.specs.Answers.{refused}
 use Rattle.wire.specs.declared.Request.{Request}
 use Rattle.wire.specs.declared.Request.TheVariants.{Begin, Read, Write, End, Abandon}
 use Rattle.wire.specs.declared.Refusal.{Refusal}
@@ -109,14 +110,14 @@ allowed b d r = unless (refusal b d r) Err (Ok (granted b d r))
 -- a refusal is an answer too
 abbrev pub told : Result Answer Refusal → Answer
 told (Ok a) = a
-told (Err n) = Refused n
+told (Err r) = refused r
 
 -- to request r of desk d
 unfoldable pub answered : Board → ℕ → Request → Answer
-answered b d r = unless (refusal b d r) Refused (granted b d r)
+answered b d r = unless (refusal b d r) refused (granted b d r)
 
 unfoldable pub answer : Board → Decoded → Answer
-answer b (Err r) = Refused r
+answer b (Err r) = refused r
 answer b (Ok (d, r)) = answered b d r
 
 -- ---- the board after it

@@ -16,11 +16,12 @@ use Rattle.items.proofs.Tests.{clash, cond_same, and_right, or_left, or_right, o
 use Rattle.counters.specs.declared.Age.{Age}
 use Rattle.counters.specs.declared.Number.{Number}
 use Rattle.wire.specs.Checks.{◌fails◌, first_failing, unless}
+use Rattle.wire.specs.Answers.{refused}
 use Rattle.wire.specs.declared.Request.{Request}
 use Rattle.wire.specs.declared.Request.TheVariants.{Begin, Read, Write, End, Abandon}
 use Rattle.wire.specs.declared.Reason.TheVariants.{Yield}
 use Rattle.wire.specs.declared.Answer.{Answer}
-use Rattle.wire.specs.declared.Answer.TheVariants.{Refused, Opened, Value, Wait, Aborted}
+use Rattle.wire.specs.declared.Answer.TheVariants.{Opened, Value, Wait, Aborted}
 use Rattle.desks.specs.Desks.{conflicts, in_the_way, holder, locked_by, locked, is_open, ageless, copy_of}
 use Rattle.board.specs.Rules.{desk_at, is_guarded, refusal, ended, age_for, granted, answered, answer}
 use Rattle.demands.specs.Demands.{bound, names, touched, concerns}
@@ -145,5 +146,5 @@ module _ (b c : Board) (d : ℕ) where
   pub answer_same : (r : Request) → Alike b c d r → answer b (Ok (d, r)) ≡ answer c (Ok (d, r))
   unfolding answered answer
   answer_same r a =
-      unless_same (refusal b d r) Refused (granted_same r a)
-      ∙ ap (λ (o : Option Refusal). unless o Refused (granted c d r)) (refusal_same r a)
+      unless_same (refusal b d r) refused (granted_same r a)
+      ∙ ap (λ (o : Option Refusal). unless o refused (granted c d r)) (refusal_same r a)

@@ -6,7 +6,6 @@ use mathlib.Core.Bool.{Bool, true, false, cond}
 use mathlib.Core.List.{List, [], ◌∷◌, map}
 use Prim.Native.Nat.{ℕ}
 use native.Mathlib.Omega.{arith}
-use Rattle.wire.specs.declared.Refusal.TheVariants.{NoSuchKind}
 use Rattle.counters.specs.Counters.{next_number}
 use Rattle.items.proofs.Laws.{has-none}
 use Rattle.runs.specs.Runs.{Exchanged}
@@ -36,7 +35,7 @@ pub record Follows {S : Type 0} (view : S → Board) (next : S → List ℕ → 
 pub honest : Follows itself next reply
 honest = record { answered = λ b q. refl; left = λ b q. refl }
 
--- ---- the same answer to everything, whatever the board does: `Refused NoSuchKind` is the one that refuses everything
+-- ---- the same answer to everything, whatever the board does: `Refused 1` is the one that refuses everything
 
 -- an answer's code
 abbrev code : Answer → ℕ
@@ -88,7 +87,7 @@ abbrev once : State → List ℕ → State
 once s q = cond s.1 s (next s.0 q, true)
 
 abbrev feigns : State → List ℕ → Answer
-feigns s q = cond s.1 (Refused NoSuchKind) (reply s.0 q)
+feigns s q = cond s.1 (Refused 1) (reply s.0 q)
 
 pub feigns_out : Follows shows once feigns → ⊥
 feigns_out f = let e : ◌≡◌ {A = ℕ} 0 1 = ap code (f.answered (opening table, true) (begin 0)) ∙ begins in omega arith

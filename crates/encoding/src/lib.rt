@@ -22,7 +22,7 @@ pub fn encode(desk: u8, a: Answer) -> [u8; 12]
     ensures { result ≡ encode desk a }
 {
     match a {
-        Answer::Refused(refusal) => record(0, desk, 0, u8::from(refusal), 0, 0),
+        Answer::Refused(number) => record(0, desk, 0, number, 0, 0),
         Answer::Opened(age, start) => record(1, desk, 0, 0, age.0, start.0),
         Answer::Value(item, value) => record(2, desk, item, 0, value, 0),
         Answer::Stored(item) => record(3, desk, item, 0, 0, 0),

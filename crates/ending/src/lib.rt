@@ -21,7 +21,7 @@ pub fn end(b: &Board, d: Seat) -> Answer
 {
     let k = &b.desks[d.index()];
     if !k.is_open() {
-        return Answer::Refused(Refusal::NoneOpen);
+        return Answer::Refused(u8::from(Refusal::NoneOpen));
     }
     let last = b.number;
     let commit = Answer::Committed(last.next());

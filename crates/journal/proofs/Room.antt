@@ -5,7 +5,6 @@ use mathlib.Core.List.{[]}
 use borrow.Author.Tests.{ltb-true, ltb-false}
 use lib.Dec.{ltb}
 use lib.ListN.{length}
-use Rattle.wire.specs.declared.Refusal.TheVariants.{NoJournalLeft}
 use Rattle.items.proofs.Tests.{by_test, by_cond, clash}
 use Rattle.counters.specs.declared.Number.{Number}
 use Rattle.wire.specs.declared.Answer.{Answer}
@@ -18,7 +17,7 @@ use Rattle.journal.specs.Journal.{commits, limited, added}
 
 module _ (need most : ℕ) where
   -- a fact of the answer, and of the refusal where room lacks
-  pub limited_ways : (P : Answer → Type 0) (a : Answer) → P a → ((n : Number) → a ≡ Committed n → most < need → P (Refused NoJournalLeft)) → P (limited need most a)
+  pub limited_ways : (P : Answer → Type 0) (a : Answer) → P a → ((n : Number) → a ≡ Committed n → most < need → P (Refused 15)) → P (limited need most a)
   limited_ways P (Refused n) p q = p
   limited_ways P (Opened a s) p q = p
   limited_ways P (Value i v) p q = p

@@ -1,6 +1,5 @@
 -- The board with a journal of its commits. The board's answer comes first; then the room for the records of a commit is tested; then the
 -- board follows, and the records are put into the journal.
-use Rattle.wire.specs.declared.Refusal.TheVariants.{NoJournalLeft}
 use Rattle.std.specs.Prelude.{ℕ, ◌+◌, Bool, true, false, cond, ◌&&◌, List, [], ◌++◌, ltb, length, drop, replicate}
 use Rattle.wire.specs.Requests.{Decoded, decode, desk_of}
 use Rattle.wire.specs.declared.Answer.{Answer}
@@ -27,7 +26,7 @@ commits (Aborted w) = false
 
 -- an end that would commit but lacks room for all its records is refused; with them, `need` bytes would be used
 abbrev pub limited : ℕ → ℕ → Answer → Answer
-limited need room a = cond (commits a && ltb room need) (Refused NoJournalLeft) a
+limited need room a = cond (commits a && ltb room need) (Refused 15) a
 
 -- the desk that asks
 abbrev pub asking : Journaled → Decoded → Desk

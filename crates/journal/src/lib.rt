@@ -32,7 +32,7 @@ fn limited(answer: Answer, used: usize, written: Items, room: usize) -> Answer
 {
     match answer {
         Answer::Committed(_) if room < used + size(written) => {
-            Answer::Refused(Refusal::NoJournalLeft)
+            Answer::Refused(u8::from(Refusal::NoJournalLeft))
         }
         _ => answer,
     }

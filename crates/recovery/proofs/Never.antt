@@ -25,7 +25,7 @@ use Rattle.board.proofs.Validated.{ended_ways}
 use Rattle.recovery.specs.Journaled.{NeverFifteen}
 
 abbrev fifteen : Answer → Bool
-fifteen (Refused r) = eqb (number_of r) 15
+fifteen (Refused n) = eqb n 15
 fifteen (Opened a s) = false
 fifteen (Value i v) = false
 fifteen (Stored i) = false

@@ -8,7 +8,6 @@ use native.Mathlib.Nat.{add-zero}
 use borrow.Author.Tests.{lt-ltb}
 use lib.Dec.{ltb}
 use lib.ListN.{length}
-use Rattle.wire.specs.declared.Refusal.TheVariants.{NoJournalLeft}
 use Rattle.items.proofs.Tests.{by_test, clash, and_left, and_in}
 use Rattle.counters.specs.declared.Number.{Number}
 use Rattle.wire.specs.Requests.{Decoded, decode}
@@ -56,7 +55,7 @@ silent_of a = go (way a)
 -- ---- the answer
 
 module _ (need most : ℕ) where
-  limited_lacks : {a : Answer} → Way a → (commits a && ltb most need) ≡ true → limited need most a ≡ Refused NoJournalLeft
+  limited_lacks : {a : Answer} → Way a → (commits a && ltb most need) ≡ true → limited need most a ≡ Refused 15
   limited_lacks (commit n) t = rw t
   limited_lacks {a} (silent e h) t = clash (and_left (commits a) (ltb most need) t) e
 
@@ -108,7 +107,7 @@ module _ (l : Ledger) (q : List ℕ) where
   reply_is = refl
 
   -- a fact of the board's own answer, and of the refusal
-  pub reply_ways : (P : Answer → Type 0) → P own → P (Refused NoJournalLeft) → P (reply l q)
+  pub reply_ways : (P : Answer → Type 0) → P own → P (Refused 15) → P (reply l q)
   reply_ways P p r = subst P (sym reply_is) (limited_ways need most P own p (λ _ _ _. r))
 
   pub next_is : next l q ≡ followed l (decode q) (reply l q)
@@ -120,7 +119,7 @@ module _ (l : Ledger) (q : List ℕ) where
   unfolding Rules.step
   next_own e = next_is ∙ ap (followed l (decode q)) e
 
-  pub reply_lacks : lacks_room l q ≡ true → reply l q ≡ Refused NoJournalLeft
+  pub reply_lacks : lacks_room l q ≡ true → reply l q ≡ Refused 15
   reply_lacks t = reply_is ∙ limited_lacks need most (way own) t
 
   pub next_lacks : lacks_room l q ≡ true → next l q ≡ l

@@ -6,8 +6,6 @@ use mathlib.Core.Bool.{false}
 use mathlib.Core.List.{List, [], ◌∷◌}
 use Rattle.items.proofs.Tests.{by_test, by_cond, clash}
 use Rattle.runs.specs.Runs.{after}
-use Rattle.wire.specs.declared.Refusal.{Refusal}
-use Rattle.wire.specs.declared.Refusal.TheVariants.{NoJournalLeft}
 use Rattle.wire.specs.declared.Reason.{Reason}
 use Rattle.wire.specs.declared.Reason.TheVariants.{Yield}
 use Rattle.wire.specs.declared.Answer.{Answer}
@@ -27,7 +25,7 @@ use Rattle.recovery.proofs.Step.{reply_ways, reply_lacks, next_lacks, reply_room
 use Rattle.recovery.proofs.Heard.{heard, heard_board}
 
 -- a refusal is no abort
-not_aborted : (n : Refusal) (w : Reason) → Refused n ≢ Aborted w
+not_aborted : (n : ℕ) (w : Reason) → Refused n ≢ Aborted w
 not_aborted n w e = clash refl (ap changes_nothing e)
 
 -- the board after any run is one that a run without a journal leaves
@@ -50,14 +48,14 @@ oldest_never_yields t right journal before q d r asked none i e =
     reply_ways l q (λ (a : Answer). a ≢ Aborted (Yield i e))
     (as_without t journal before (λ (b : Board). NoneOlder b d → Rules.reply b q ≢ Aborted (Yield i e))
     (λ hs older. Aging.oldest_never_yields t right hs q d r asked older i e) none)
-    (not_aborted NoJournalLeft (Yield i e))
+    (not_aborted 15 (Yield i e))
 
 -- ---- an aborted desk
 
 -- an abort found room, since it needs none
 aborted_roomy : (l : Ledger) (q : List ℕ) (w : Reason) → reply l q ≡ Aborted w → lacks_room l q ≡ false
 aborted_roomy l q w aborted =
-    by_test (lacks_room l q) (λ t. absurd (not_aborted NoJournalLeft w (sym (reply_lacks l q t) ∙ aborted))) (λ f. f)
+    by_test (lacks_room l q) (λ t. absurd (not_aborted 15 w (sym (reply_lacks l q t) ∙ aborted))) (λ f. f)
 
 heard_none : (d : ℕ) (l : Ledger) (qs : List (List ℕ)) → NoneFrom d qs → NoneFrom d (heard l qs)
 heard_none d l [] n = tt

@@ -1,6 +1,5 @@
 -- What is demanded of every run with a journal, from any right opening table, with a journal of any length and with any requests, malformed
 -- ones too. Every call is lent the same buffer, as the call before left it.
-use Rattle.wire.specs.declared.Refusal.TheVariants.{NoJournalLeft}
 use Rattle.std.specs.Prelude.{ℕ, ◌+◌, ◌≤◌, ◌≡◌, ◌≢◌, Bool, true, false, ◌&&◌, List, ltb, length, take, drop}
 use Rattle.runs.specs.Runs.{after, Exchanged}
 use Rattle.wire.specs.Requests.{decode}
@@ -27,12 +26,12 @@ lacks_room l q =
 abbrev pub FifteenWhereRoomLacks : Type 0
 FifteenWhereRoomLacks =
     (l : Ledger) (q : List ℕ)
-    → (lacks_room l q ≡ true → (reply l q ≡ Refused NoJournalLeft) × (next l q ≡ l))
+    → (lacks_room l q ≡ true → (reply l q ≡ Refused 15) × (next l q ≡ l))
     × (lacks_room l q ≡ false → reply l q ≡ Rules.reply l.kept.board q)
 
 -- and the board without a journal never gives it
 abbrev pub NeverFifteen : Type 0
-NeverFifteen = (b : Board) (q : List ℕ) → Rules.reply b q ≢ Refused NoJournalLeft
+NeverFifteen = (b : Board) (q : List ℕ) → Rules.reply b q ≢ Refused 15
 
 -- ---- a refusal, 15 too, or a wait changes neither the board nor the journal
 

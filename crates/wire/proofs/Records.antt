@@ -13,6 +13,8 @@ use Rattle.wire.specs.declared.Reason.TheVariants.{Overwritten, TooOld, Yield}
 use Rattle.wire.specs.declared.Answer.{Answer}
 use Rattle.wire.specs.declared.Answer.TheVariants.{Refused, Opened, Value, Stored, Wait, Committed, Abandoned, Aborted}
 
+-- ---- refusals: no two have one number
+
 -- the refusal of a number
 abbrev refusal_of : ℕ → Refusal
 refusal_of n =
@@ -26,22 +28,27 @@ refusal_of n =
     (cond (eqb n 8) AboveCeiling
     (cond (eqb n 9) NoAgeLeft NoJournalLeft))))))))
 
-number_tells : (r : Refusal) → refusal_of (number_of r) ≡ r
-number_tells NoSuchKind = refl
-number_tells NoSuchDesk = refl
-number_tells UnusedNotZero = refl
-number_tells AlreadyOpen = refl
-number_tells NoneOpen = refl
-number_tells NoSuchItem = refl
-number_tells BelowFloor = refl
-number_tells AboveCeiling = refl
-number_tells NoAgeLeft = refl
-number_tells NoJournalLeft = refl
+told_back : (r : Refusal) → refusal_of (number_of r) ≡ r
+told_back NoSuchKind = refl
+told_back NoSuchDesk = refl
+told_back UnusedNotZero = refl
+told_back AlreadyOpen = refl
+told_back NoneOpen = refl
+told_back NoSuchItem = refl
+told_back BelowFloor = refl
+told_back AboveCeiling = refl
+told_back NoAgeLeft = refl
+told_back NoJournalLeft = refl
+
+pub number_tells : (r s : Refusal) → number_of r ≡ number_of s → r ≡ s
+number_tells r s same = sym (told_back r) ∙ ap refusal_of same ∙ told_back s
+
+-- ---- answers
 
 -- the answer that code, item, reason, first and second number tell
 abbrev answer_of : ℕ → ℕ → ℕ → ℕ → ℕ → Answer
 answer_of code item reason first second =
-    cond (eqb code 0) (Refused (refusal_of reason))
+    cond (eqb code 0) (Refused reason)
     (cond (eqb code 1) (Opened (record { 0 = first }) (record { 0 = second }))
     (cond (eqb code 2) (Value item first)
     (cond (eqb code 3) (Stored item)
@@ -56,7 +63,7 @@ abbrev from_fields : List ℕ → Answer
 from_fields f = answer_of (byte f 0) (byte f 1) (byte f 2) (byte f 3) (byte f 4)
 
 fields_tell : (a : Answer) → from_fields (fields a) ≡ a
-fields_tell (Refused r) = ap Refused (number_tells r)
+fields_tell (Refused n) = refl
 fields_tell (Opened a s) = refl
 fields_tell (Value i v) = refl
 fields_tell (Stored i) = refl

@@ -21,6 +21,10 @@ number_of AboveCeiling = 8
 number_of NoAgeLeft = 9
 number_of NoJournalLeft = 15
 
+-- a refusal is answered by its number
+abbrev pub refused : Refusal → Answer
+refused r = Refused (number_of r)
+
 -- what an aborted answer fills: item, reason, first number; of a yield that is the desk that holds the item
 abbrev pub aborted : Reason → List ℕ
 aborted (Overwritten i n) = 7 ∷ i ∷ 1 ∷ n.0 ∷ 0 ∷ []
@@ -29,7 +33,7 @@ aborted (Yield i e) = 7 ∷ i ∷ 3 ∷ e ∷ 0 ∷ []
 
 -- code, item, reason, first and second number; zero where nothing is said. The first number of a wait is the desk that holds the item
 abbrev pub fields : Answer → List ℕ
-fields (Refused r) = 0 ∷ 0 ∷ number_of r ∷ 0 ∷ 0 ∷ []
+fields (Refused n) = 0 ∷ 0 ∷ n ∷ 0 ∷ 0 ∷ []
 fields (Opened a s) = 1 ∷ 0 ∷ 0 ∷ a.0 ∷ s.0 ∷ []
 fields (Value i v) = 2 ∷ i ∷ 0 ∷ v ∷ 0 ∷ []
 fields (Stored i) = 3 ∷ i ∷ 0 ∷ 0 ∷ 0 ∷ []
@@ -47,7 +51,7 @@ encode desk a = let f = fields a in record_of (byte f 0) desk (byte f 1) (byte f
 
 -- the item of a value given or stored
 abbrev pub item_of : Answer → ℕ
-item_of (Refused r) = 0
+item_of (Refused n) = 0
 item_of (Opened a s) = 0
 item_of (Value i v) = i
 item_of (Stored i) = i
