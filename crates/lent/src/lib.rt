@@ -1,7 +1,7 @@
 // A whole run's refusals, in their order.
 #![tactic(auto)]
 
-ghost use Rattle.std.specs.Prelude.{◌≡◌, ◌≤◌, IfOk, Ok, Err};
+ghost use Rattle.std.specs.Prelude.{◌≡◌, ◌≤◌, IfOk, Ok, Err, pos, neg_ℤ};
 ghost use Rattle.std.specs.Result.{result_map_both};
 ghost use Rattle.lent.specs.declared.RunRefusal.TheVariants.{WrongTable};
 ghost use Rattle.wire.specs.Checks.{unless};
@@ -75,12 +75,19 @@ pub fn accept(
     Ok(rows)
 }
 
+// Minus a number.
+pub fn minus(n: u8) -> i64
+    ensures { result ≡ neg_ℤ (pos n) }
+{
+    -i64::from(n)
+}
+
 // To C a refusal is minus its number.
 impl From<RunRefusal> for i64 {
     ghost from_gives = { λ r number. number ≡ as_number (Err r) };
 
     fn from(refusal: RunRefusal) -> i64 {
-        -i64::from(refusal.number())
+        minus(refusal.number())
     }
 }
 
