@@ -1,4 +1,6 @@
 // The lines that are printed.
+ghost use Rattle.std.specs.Prelude.{◌*◌, ◌≤◌, length};
+
 use std::io;
 use words::number_at;
 
@@ -10,8 +12,11 @@ fn print_answer(rt: &impl Print, answer: &[u8; 12]) -> io::Result<()> {
     println!(rt; "{desk} {code} {item} {reason} {first} {second}")
 }
 
-pub fn print_answers(rt: &impl Print, answers: &[u8]) -> io::Result<()> {
-    let (answers, _) = answers.as_chunks::<12>();
+// As many answers as are counted, 12 bytes each.
+pub fn print_answers(rt: &impl Print, answers: &[u8], count: usize) -> io::Result<()>
+    requires { 12 * count ≤ length answers.now }
+{
+    let (answers, _) = answers[..12 * count].as_chunks::<12>();
     for answer in answers {
         print_answer(rt, answer)?;
     }
@@ -26,11 +31,14 @@ fn print_change(rt: &impl Print, item: usize, was: u32, is: u32) -> io::Result<(
 }
 
 // The items whose value differs from its opening, by the rows of the table and the values of 4 bytes.
-pub fn print_changes(rt: &impl Print, table: &[u8], values: &[u8]) -> io::Result<()> {
-    let (rows, _) = table.as_chunks::<16>();
-    let (values, _) = values.as_chunks::<4>();
-    for (item, (row, value)) in rows.iter().zip(values).enumerate() {
-        print_change(rt, item, number_at(row, 8), u32::from_le_bytes(*value))?;
+pub fn print_changes(rt: &impl Print, table: &[u8], values: &[u8]) -> io::Result<()>
+    requires table_whole { 1024 ≤ length table.now }
+    requires values_whole { 256 ≤ length values.now }
+{
+    for item in 0..64 {
+        let was = number_at(table, 16 * item + 8);
+        let is = number_at(values, 4 * item);
+        print_change(rt, item, was, is)?;
     }
     Ok(())
 }

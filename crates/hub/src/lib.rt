@@ -1,5 +1,6 @@
 // The hub: a whole run over byte slices that a host lends, and one request at a time over a board that it keeps.
-// These are C's calls: so they tell a refusal by its number, and each has a twin in hub_journal, which is lent one buffer more.
+// hub_run, hub_open and hub_step are C's calls: so they tell a refusal by its number, and each has a twin in hub_journal, which is lent one
+// buffer more. A program in Rattle calls `run`, which tells it by name.
 #![tactic(auto)]
 
 ghost use Rattle.std.specs.Prelude.{◌≡◌};
@@ -9,7 +10,7 @@ ghost use Rattle.serving.specs.Run.{Outcome, outcome, opened_by, stepped_by};
 use board::Board;
 use lent::{RunRefusal, as_number};
 use serving::host::{open, tell};
-use serving::run::run;
+pub use serving::run::run;
 
 // A whole run: the count of answers, or minus the number of the refusal. It supposes nothing.
 pub fn hub_run(table: &[u8], requests: &[u8], answers: &mut [u8], values: &mut [u8]) -> i64
