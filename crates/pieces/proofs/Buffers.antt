@@ -32,15 +32,15 @@ unfolding four_each
 four_each_snoc [] v = refl
 four_each_snoc (u ∷ vs) v = ap (λ (l : List ℕ). four_bytes u ++ l) (four_each_snoc vs v)
 
-four_each_suc : (vs : List ℕ) (i : ℕ) → i < length vs → four_each (take (i + 1) vs) ≡ four_each (take i vs) ++ four_bytes (get_or vs i 0)
+pub four_each_suc : (vs : List ℕ) (i : ℕ) → i < length vs → four_each (take (i + 1) vs) ≡ four_each (take i vs) ++ four_bytes (get_or vs i 0)
 four_each_suc vs i h = rw (add-one, take-suc vs i 0, four_each_snoc)
 
-four_each-length : (vs : List ℕ) → length (four_each vs) ≡ 4 * length vs
+pub four_each-length : (vs : List ℕ) → length (four_each vs) ≡ 4 * length vs
 unfolding four_each
 four_each-length [] = refl
 four_each-length (v ∷ vs) = omega (arith, four_each-length vs)
 
-four_each-take : (vs : List ℕ) (i : ℕ) → i ≤ length vs → length (four_each (take i vs)) ≡ 4 * i
+pub four_each-take : (vs : List ℕ) (i : ℕ) → i ≤ length vs → length (four_each (take i vs)) ≡ 4 * i
 four_each-take vs i h = four_each-length (take i vs) ∙ ap (λ (n : ℕ). 4 * n) (length-take-le i vs h)
 
 -- values put 4 bytes apart stand at the front

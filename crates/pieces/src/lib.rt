@@ -13,7 +13,7 @@ pub fn put(buffer: &mut [u8], at: usize, piece: &[u8])
     buffer[at..at + piece.len()].copy_from_slice(piece);
 }
 
-// The 8 bytes from index at on. It stands for its promise: runs and restarts go by chunks now.
+// The 8 bytes from index at on.
 pub fn eight(bytes: &[u8], at: usize) -> [u8; 8]
     requires { at + 8 ≤ length bytes.now }
     ensures { result ≡ take 8 (drop at bytes.now) }

@@ -11,18 +11,19 @@ use crate::serves::Serves;
 use encoding::encode;
 use lent::{RunRefusal, accept};
 use opening::opening;
-use pieces::{put, put_values};
+use pieces::{eight, put, put_values};
 
-// Hands the requests over one at a time and writes each answer after the one before it, at 12 times its place, as the rule `served` says.
+// Hands the requests over one at a time and writes each answer after the one before it: request and answer k stand at 8 and 12 times k, as the
+// rules `eights_in` and `served` say.
 pub fn serve<B: Serves>(board: &mut B, requests: &[u8], answers: &mut [u8])
     requires reached { B.Ready board.old }
     requires requests_in_bounds { 12 * (length requests.now / 8) ≤ length answers.old }
     ensures value { board.new ≡ after B.next board.old (eights_in requests.now) }
     ensures answers_after { answers.new ≡ served B.next B.reply board.old (eights_in requests.now) ++ drop (12 * (length requests.now / 8)) answers.old }
 {
-    let (eights, _) = requests.as_chunks::<8>();
-    for (k, request) in eights.iter().enumerate() {
-        let answer = board.step_in(*request);
+    for k in 0..requests.len() / 8 {
+        let request = eight(requests, 8 * k);
+        let answer = board.step_in(request);
         let bytes = encode(request[1], answer);
         put(answers, 12 * k, &bytes);
     }

@@ -28,23 +28,28 @@ fn row_right(table: &[u8; 1024], i: usize) -> bool
         && table[at + 15] == 0
 }
 
-// The rows of a table that is not wrong.
-pub fn check(table: &[u8]) -> Result<&[u8; 1024], WrongTable>
-    ensures { result_map_both (λ rows. rows.now) (λ e. e) result ≡ checked table.now }
-{
-    let rows: &[u8; 1024] = table.as_array().ok_or(WrongTable)?;
-    for i in 0..64 {
-        if !row_right(rows, i) {
-            return Err(WrongTable);
-        }
-    }
-    Ok(rows)
-}
-
 // The table is not 1,024 bytes long, or some row is not right.
-#[tactic(auto, unfolding(crate::specs::Table::checked))]
 pub fn wrong(table: &[u8]) -> bool
     ensures { result ≡ wrong table.now }
 {
-    check(table).is_err()
+    let Some(rows) = table.as_array::<1024>() else {
+        return true;
+    };
+    for i in 0..64 {
+        if !row_right(rows, i) {
+            return true;
+        }
+    }
+    false
+}
+
+// The rows of a table that is not wrong.
+#[tactic(auto, using(crate::proofs::Rows::right_long), unfolding(crate::specs::Table::checked))]
+pub fn check(table: &[u8]) -> Result<&[u8; 1024], WrongTable>
+    ensures { result_map_both (λ rows. rows.now) (λ e. e) result ≡ checked table.now }
+{
+    if wrong(table) {
+        return Err(WrongTable);
+    }
+    table.as_array().ok_or(WrongTable)
 }

@@ -1,5 +1,5 @@
 -- The loop keeps its invariant, and at its end that is what is promised.
-use Prim.Native.Nat.{ℕ, zero, suc, ◌+◌, ◌*◌, ◌/◌, ◌<◌}
+use Prim.Native.Nat.{ℕ, ◌*◌}
 use Rattle.lent.proofs.Served.{encode-length, next-board, next-answer, answers-length}
 use Rattle.lent.specs.Served.{twelve_each, served}
 use Rattle.pieces.proofs.Buffers.{turn}
@@ -8,21 +8,11 @@ use Rattle.pieces.specs.Pieces.{eights_of}
 use Rattle.runs.specs.Runs.{after}
 use Rattle.wire.specs.Answers.{encode}
 use Rattle.words.specs.Bytes.{byte}
-use lib.ListN.{length, get_or, take, drop}
-use lib.Seq.{drop-drop}
-use Rattle.std.specs.Simd.{first_chunks}
-use mathlib.Core.List.{List, [], ◌++◌}
+use lib.ListN.{length}
+use mathlib.Core.List.{List, ◌++◌}
 use mathlib.Core.Path.{◌≡◌, refl, sym, ap, ◌∙◌}
 use native.Mathlib.Omega.{arith}
 use Rattle.serving.proofs.run.serve.Goals as goal
-
--- piece k of the pieces that are gone through
-chunk_at : (m k : ℕ) (s : List ℕ) → k < m → get_or (first_chunks 8 m s) k [] ≡ eight_at s k
-chunk_at zero k s h = absurd (omega arith)
-chunk_at (suc m) zero s h = refl
-chunk_at (suc m) (suc k) s h =
-    let e : 8 + 8 * k ≡ 8 * suc k = omega arith in
-    chunk_at m k (drop 8 s) (omega arith) ∙ ap (take 8) (drop-drop (8 * k) 8 s ∙ ap (λ (n : ℕ). drop n s) e)
 
 pub loop-k-init : goal.loop-k-init
 unfolding eights_of twelve_each
@@ -36,8 +26,7 @@ loop-k-preserved g c =
     let k = c.loop-k.k in
     let q = eight_at s k in
     let last = after B.next a.board.now (eights_of s k) in
-    let in_range : k < length s / 8 = omega (arith, c.as_chunks.ensures.front_len) in
-    let asked = ap (λ (l : List (List ℕ)). get_or l k []) c.as_chunks.ensures.front ∙ chunk_at (length s / 8) k s in_range in
+    let asked : c.eight-request.result ≡ q = c.eight-request.ensures in
     let board : c.step_in-answer.new.self ≡ B.next last q = c.step_in-answer.ensures.1 ∙ (λ i. B.next (c.loop-k.invariant.board i) (asked i)) in
     let reply : c.step_in-answer.result ≡ B.reply last q = c.step_in-answer.ensures.0 ∙ (λ i. B.reply (c.loop-k.invariant.board i) (asked i)) in
     let told : c.encode-bytes.result ≡ encode (byte q 1) (B.reply last q) = c.encode-bytes.ensures ∙ (λ i. encode (byte (asked i) 1) (reply i)) in
