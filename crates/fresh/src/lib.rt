@@ -19,16 +19,24 @@ fn clear(journal: &mut [u8])
     journal[..end].fill(0);
 }
 
+// The board of a table, with nothing used of its journal. Both calls below make it where they return it: handed on from one to the other it was
+// copied once more.
+fn unused(table: &[u8; 1024]) -> Journaled
+    ensures { result ≡ fresh table.now }
+{
+    Journaled {
+        board: opening(table),
+        used: 0,
+    }
+}
+
 // The board of a table with an empty journal.
 pub fn fresh(table: &[u8; 1024], journal: &mut [u8]) -> Journaled
     ensures value { result ≡ fresh table.now }
     ensures journal_after { journal.new ≡ cleared journal.old }
 {
     clear(journal);
-    Journaled {
-        board: opening(table),
-        used: 0,
-    }
+    unused(table)
 }
 
 // Without a journal another board is opened, and no buffer cleared (serving).
@@ -38,5 +46,6 @@ pub fn open(table: &[u8], journal: &mut [u8]) -> Result<Journaled, WrongTable>
     ensures { (result ≡ opened_of table.now) × (journal.new ≡ journal_opened table.now journal.old) }
 {
     let rows = table::check(table)?;
-    Ok(fresh(rows, journal))
+    clear(journal);
+    Ok(unused(rows))
 }

@@ -34,32 +34,27 @@ fn fits_closing(at: Reader, bytes: &[u8; 8]) -> bool
         && number_at(bytes, 4) == at.items
 }
 
-// One record more; none where it does not fit, and nothing after it is read.
+// One record more; none where it does not fit, and nothing after it is read. One local holds the reader, so that its two lists of values are
+// copied no more than must be.
 #[tactic(auto, using(crate::proofs::Fitting::fitting, crate::proofs::Fitting::closing), unfolding(crate::specs::Restart::read))]
 fn read(table: &[u8; 1024], at: Reader, bytes: &[u8; 8]) -> Option<Reader>
     ensures { option_map going result ≡ still (read table.now (going at) bytes.now) }
 {
-    let whole = at.whole;
-    let mut values = at.values;
+    let mut after = at;
     if fits_item(table, at, bytes) {
         let item = bytes[1];
-        values[usize::from(item)] = number_at(bytes, 4);
-        return Some(Reader {
-            commits: at.commits,
-            whole,
-            items: at.items + 1,
-            next: item + 1,
-            values,
-        });
+        after.values[usize::from(item)] = number_at(bytes, 4);
+        after.items = at.items + 1;
+        after.next = item + 1;
+        return Some(after);
     }
     if fits_closing(at, bytes) {
-        return Some(Reader {
-            commits: at.commits + 1,
-            whole: values,
-            items: 0,
-            next: 0,
-            values,
-        });
+        let values = at.values;
+        after.whole = values;
+        after.commits = at.commits + 1;
+        after.items = 0;
+        after.next = 0;
+        return Some(after);
     }
     None
 }
