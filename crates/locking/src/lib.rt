@@ -26,7 +26,7 @@ impl Claim {
         k.written.has(self.item) || (self.writes && k.shared.has(self.item))
     }
 
-    // Seat e is another one, and its desk conflicts at the guarded item. Seats are compared by their index: a type with a model derives no `==`.
+    // Seat e is another one, and its desk conflicts at the guarded item. Seats are compared by their index.
     fn meets(&self, desks: &[Desk; 16], guarded: Items, e: Seat) -> bool
         ensures { result ≡ in_the_way desks.now guarded self.now.seat self.now.item self.now.writes e }
     {
