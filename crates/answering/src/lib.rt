@@ -126,12 +126,12 @@ fn answered(b: &Board, d: Seat, request: Request) -> Answer
 }
 
 #[tactic(auto, unfolding(board::specs::Rules::answer))]
-pub fn answer(b: &Board, asked: &Result<(Seat, Request), Refusal>) -> Answer
+pub fn answer(b: &Board, asked: &Result<(Seat, Request), u8>) -> Answer
     requires { Counted b.now }
     ensures { result ≡ answer b.now asked.now }
 {
     match asked {
         Ok((d, request)) => answered(b, *d, *request),
-        Err(refusal) => Answer::Refused(u8::from(*refusal)),
+        Err(number) => Answer::Refused(*number),
     }
 }

@@ -117,7 +117,7 @@ unfoldable pub answered : Board → ℕ → Request → Answer
 answered b d r = unless (refusal b d r) refused (granted b d r)
 
 unfoldable pub answer : Board → Decoded → Answer
-answer b (Err r) = refused r
+answer b (Err n) = Refused n
 answer b (Ok (d, r)) = answered b d r
 
 -- ---- the board after it

@@ -2,7 +2,7 @@
 #![tactic(auto)]
 
 ghost use Rattle.std.specs.Prelude.{◌≡◌};
-ghost use Rattle.wire.specs.Requests.{request_in, unused_zero, value_in, decode, desk_of, value_of};
+ghost use Rattle.wire.specs.Requests.{request_in, unused_zero, value_in, checked, decode, desk_or, value_of};
 
 use places::Seat;
 use wire::{Refusal, Request};
@@ -43,9 +43,8 @@ fn value(request: Request) -> u32
 }
 
 // Checks 1 to 3, in their order. A function and no TryFrom: a pair of a seat and a request is no type of this repository.
-#[tactic(auto, unfolding(wire::specs::Requests::decode))]
-pub fn decode(bytes: [u8; 8]) -> Result<(Seat, Request), Refusal>
-    ensures { result ≡ decode bytes }
+pub fn check(bytes: [u8; 8]) -> Result<(Seat, Request), Refusal>
+    ensures { result ≡ checked bytes }
 {
     let [kind, desk, item, spare, a, b, c, d] = bytes;
     let value = number(a, b, c, d);
@@ -61,18 +60,30 @@ pub fn decode(bytes: [u8; 8]) -> Result<(Seat, Request), Refusal>
     Ok((seat, request))
 }
 
-// The desk that asks; desk 0 where the record is malformed, and no Option, since the rule `follow` puts desk 0 there (board, specs/Rules).
-pub fn desk_of(asked: &Result<(Seat, Request), Refusal>) -> Seat
-    ensures { result ≡ desk_of asked.now }
+// The same, with the refusal's number, as an answer tells it.
+#[tactic(auto, unfolding(wire::specs::Requests::decode))]
+pub fn decode(bytes: [u8; 8]) -> Result<(Seat, Request), u8>
+    ensures { result ≡ decode bytes }
+{
+    match check(bytes) {
+        Ok(asked) => Ok(asked),
+        Err(refusal) => Err(u8::from(refusal)),
+    }
+}
+
+// The desk that asks; where the record is malformed another, and no Option, since the rule `desk_of` puts desk 0 there (wire,
+// specs/Requests).
+pub fn desk_of<D: Copy>(asked: &Result<(D, Request), u8>, other: D) -> D
+    ensures { result ≡ desk_or other asked.now }
 {
     match asked {
-        Ok((seat, _)) => *seat,
-        Err(_) => Seat::at(0),
+        Ok((desk, _)) => *desk,
+        Err(_) => other,
     }
 }
 
 // The value of a write; 0 of any other, as in the rule `value_of` (wire, specs/Requests).
-pub fn value_of(asked: &Result<(Seat, Request), Refusal>) -> u32
+pub fn value_of<D>(asked: &Result<(D, Request), u8>) -> u32
     ensures { result ≡ value_of asked.now }
 {
     match asked {

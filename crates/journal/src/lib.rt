@@ -12,6 +12,7 @@ use board::{Board, Stepped};
 use decoding::{decode, desk_of};
 use desks::Desk;
 use items::Items;
+use places::Seat;
 use records::{append, room, size};
 use stepping::following::follow;
 use wire::{Answer, Refusal};
@@ -59,7 +60,7 @@ pub fn step(s: Journaled, request: [u8; 8], journal: &mut [u8]) -> Stepped<Journ
     ensures journal_after { journal.new ≡ journal_after s journal.old request }
 {
     let asked = decode(request);
-    let k = s.board.desks[desk_of(&asked).index()];
+    let k = s.board.desks[desk_of(&asked, Seat::at(0)).index()];
     let first = answer(&s.board, &asked);
     let answer = limited(first, s.used, k.written, room(journal.len()));
     let board = follow(s.board, &asked, answer);

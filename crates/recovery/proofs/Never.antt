@@ -12,7 +12,7 @@ use Rattle.wire.specs.Checks.{Check, ◌fails◌, first_failing}
 use Rattle.wire.specs.Answers.{number_of}
 use Rattle.wire.proofs.Checks.{unless_ways}
 use Rattle.wire.specs.declared.Refusal.{Refusal}
-use Rattle.wire.specs.Requests.{Decoded, form_checks, malformed, decode}
+use Rattle.wire.specs.Requests.{form_checks, malformed, numbered, decode}
 use Rattle.wire.specs.declared.Request.{Request}
 use Rattle.wire.specs.declared.Request.TheVariants.{Begin, Read, Write, End, Abandon}
 use Rattle.wire.specs.declared.Answer.{Answer}
@@ -79,7 +79,7 @@ module _ (b : Board) where
   answer_other : (q : List ℕ) → Other (answer b (decode q))
   unfolding answer decode
   answer_other q =
-      unless_ways (λ (x : Decoded). Other (answer b x)) (malformed q) (λ n. first_other (form_checks q) tt n)
+      unless_ways (λ x. Other (answer b (numbered x))) (malformed q) (λ n. first_other (form_checks q) tt n)
       (λ passed. answered_other (byte q 1) (wanted q))
 
 pub never_fifteen : NeverFifteen

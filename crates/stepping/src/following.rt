@@ -9,7 +9,7 @@ use counters::Age;
 use decoding::{desk_of, value_of};
 use desks::Desk;
 use places::{Item, Seat};
-use wire::{Answer, Refusal, Request};
+use wire::{Answer, Request};
 
 // The last age given: a new age is above it, and one that was kept is not.
 fn last_given(last: Age, age: Age) -> Age
@@ -61,12 +61,12 @@ fn installed(values: &[u32; 64], k: &Desk) -> [u32; 64]
 // One local holds the board all the way, and every way ends at the last line, so that it is copied no more than must be. The desk's record is
 // taken out before the match, since in the arms it cost another copy.
 #[tactic(auto, unfolding(board::specs::Rules::follow))]
-pub fn follow(b: Board, asked: &Result<(Seat, Request), Refusal>, answer: Answer) -> Board
+pub fn follow(b: Board, asked: &Result<(Seat, Request), u8>, answer: Answer) -> Board
     requires { item_of answer < 64 }
     ensures { result ≡ follow b asked.now answer }
 {
     let mut after = b;
-    let d = desk_of(asked).index();
+    let d = desk_of(asked, Seat::at(0)).index();
     let k = after.desks[d];
     match answer {
         Answer::Refused(_) | Answer::Wait(_, _) => {}

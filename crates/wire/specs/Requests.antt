@@ -2,6 +2,7 @@
 use Rattle.std.specs.Prelude.{ℕ, Bool, cond, not, ◌&&◌, ◌||◌, List, [], ◌∷◌, Option, Some, None, Result, Ok, Err, eqb, ltb}
 use Rattle.words.specs.Bytes.{byte, word_at}
 use Rattle.wire.specs.Checks.{Check, ◌fails◌, first_failing, unless}
+use Rattle.wire.specs.Answers.{number_of}
 use Rattle.wire.specs.declared.Request.{Request}
 use Rattle.wire.specs.declared.Request.TheVariants.{Begin, Read, Write, End, Abandon}
 use Rattle.wire.specs.declared.Refusal.{Refusal}
@@ -36,16 +37,27 @@ abbrev pub malformed : List ℕ → Option Refusal
 malformed q = first_failing (form_checks q)
 
 -- what they answer: the desk that asks and its request, or the refusal
+abbrev pub checked : List ℕ → Result (ℕ × Request) Refusal
+checked q = unless (malformed q) Err (Ok (byte q 1, request_of (byte q 0) (byte q 2) (word_at q 4)))
+
+-- the same, with the number of the refusal
 abbrev pub Decoded : Type 0
-Decoded = Result (ℕ × Request) Refusal
+Decoded = Result (ℕ × Request) ℕ
+
+abbrev pub numbered : Result (ℕ × Request) Refusal → Decoded
+numbered (Ok asked) = Ok asked
+numbered (Err r) = Err (number_of r)
 
 unfoldable pub decode : List ℕ → Decoded
-decode q = unless (malformed q) Err (Ok (byte q 1, request_of (byte q 0) (byte q 2) (word_at q 4)))
+decode q = numbered (checked q)
 
--- the desk that asks; what is malformed is refused, which changes no desk, and desk 0 stands in
+-- the desk that asks; what is malformed is refused, which changes no desk, and another stands in: desk 0
+abbrev pub desk_or : {D : Type 0} → D → Result (D × Request) ℕ → D
+desk_or other (Ok (d, r)) = d
+desk_or other (Err n) = other
+
 abbrev pub desk_of : Decoded → ℕ
-desk_of (Ok (d, r)) = d
-desk_of (Err n) = 0
+desk_of q = desk_or 0 q
 
 -- the value of a write
 abbrev pub value_in : Request → ℕ
@@ -55,6 +67,6 @@ value_in (Write i v) = v
 value_in End = 0
 value_in Abandon = 0
 
-abbrev pub value_of : Decoded → ℕ
+abbrev pub value_of : {D : Type 0} → Result (D × Request) ℕ → ℕ
 value_of (Ok (d, r)) = value_in r
 value_of (Err n) = 0
