@@ -1,14 +1,19 @@
 // The lines that are printed.
-ghost use Rattle.std.specs.Prelude.{◌*◌, ◌≤◌, length};
+ghost use Rattle.std.specs.Prelude.{◌+◌, ◌*◌, ◌≤◌, length};
 
 use std::io;
 use words::number_at;
 
-// Desk, code, item, reason, first and second number of an answer: bytes, which no type of the repository reads back, so no Display.
-fn print_answer(rt: &impl Print, answer: &[u8; 12]) -> io::Result<()> {
-    let [code, desk, item, reason, ..] = *answer;
-    let first = number_at(answer, 4);
-    let second = number_at(answer, 8);
+// Desk, code, item, reason, first and second number of the answer at index at: bytes, which no type of the repository reads back, so no Display.
+fn print_answer(rt: &impl Print, answers: &[u8], at: usize) -> io::Result<()>
+    requires { at + 12 ≤ length answers.now }
+{
+    let code = answers[at];
+    let desk = answers[at + 1];
+    let item = answers[at + 2];
+    let reason = answers[at + 3];
+    let first = number_at(answers, at + 4);
+    let second = number_at(answers, at + 8);
     println!(rt; "{desk} {code} {item} {reason} {first} {second}")
 }
 
@@ -16,9 +21,8 @@ fn print_answer(rt: &impl Print, answer: &[u8; 12]) -> io::Result<()> {
 pub fn print_answers(rt: &impl Print, answers: &[u8], count: usize) -> io::Result<()>
     requires { 12 * count ≤ length answers.now }
 {
-    let (answers, _) = answers[..12 * count].as_chunks::<12>();
-    for answer in answers {
-        print_answer(rt, answer)?;
+    for place in 0..count {
+        print_answer(rt, answers, 12 * place)?;
     }
     Ok(())
 }
