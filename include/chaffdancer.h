@@ -71,7 +71,7 @@
  * Its parts may be linked by themselves: libhub.a, and for the calls with a
  * journal and hub_restart libhub_journal.a (x86-64 Linux). The library
  * allocates nothing, keeps nothing between calls, does no input or output and
- * never exits. It takes about 38 KB of stack, with a journal about 40 KB.
+ * never exits. It takes about 38 KB of stack, with a journal about 35 KB.
  *
  * RULES FOR ALL CALLS
  *   Buffers   The buffers lent to one call (a board is one too) must not
