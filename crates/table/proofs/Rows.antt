@@ -98,6 +98,23 @@ pub is_wrong : {A : Type 0} (r : Result A WrongTable) → is_err r ≡ true → 
 is_wrong (Ok x) h = cc
 is_wrong (Err e) h = refl
 
+-- what `checked` is of a table that is wrong, by its length or by a row, and of one whose rows are all right
+pub checked_wrong : (t : List ℕ) → wrong t ≡ true → Err (record {}) ≡ checked t
+unfolding checked
+checked_wrong t e = rw (e, checked)
+
+module _ (t : List ℕ) where
+  pub checked_length : (length t ≡ 1024 → ⊥) → Err (record {}) ≡ checked t
+  checked_length h = checked_wrong t (sym (wrong-length t h))
+
+  module _ (long : length t ≡ 1024) where
+    pub checked_row : (i : ℕ) → i < 64 → row_right t i ≡ false → Err (record {}) ≡ checked t
+    checked_row i h e = checked_wrong t (sym (wrong_row t long i h e))
+
+    pub checked_rows : ((i : ℕ) → i < 64 → row_right t i ≡ true) → Ok t ≡ checked t
+    unfolding checked
+    checked_rows all = rw (← wrong_none t long all) refl
+
 -- what the rows are that it gives
 pub checked_is : (t rows : List ℕ) → Ok rows ≡ checked t → (rows ≡ t) × (wrong t ≡ false)
 unfolding checked
