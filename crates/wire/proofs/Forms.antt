@@ -1,4 +1,4 @@
--- The 8 bytes of a request, check by check: the first that fails gives its number, and where none does a desk asks.
+-- The 8 bytes of a request, check by check: the first that fails gives its refusal, told by name or by number, and where none does a desk asks.
 use mathlib.Core.List.{List}
 use Prim.Native.Nat.{ℕ, ◌<◌, suc-le-suc}
 use borrow.Author.Tests.{ltb-false}
